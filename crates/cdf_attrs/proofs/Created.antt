@@ -1,5 +1,5 @@
 -- The making of an attribute, as an edit, leads from a good image to the one that follows.
-use Rattle.cdf_attrs.proofs.Common.{Act, Added, AllKeep, AllKeep-append, Allowances, AreNew, AreThere, Attr, Attribute, AttributeLives, AttributeShape, Attrs, Bool, ByStep, Command, DataSet, Each, Edit, Follows, Go, Good, HasShape, Hold, Hold-append, Hold-split, In, IsChain, IsGoodByShape, IsJoined, IsSound, Keeps, List, MakesAttribute, Mark, OneAttribute, Only, OwnRules, Plain, Scope, Shape, Some, Splices, Took, [], acts_then, adding_marks, adr_body, adr_name, adr_num, adr_scope, adr_type, adrs, adrs_linked, adrs_rows, agr_edr_type, all_remain, all_unmarked-away, and_from, ap, append-nil, arith, attr_changes, attribute_names, attribute_names_are, attribute_of, attribute_records, attribute_shape_rows, attributes_gdr_fields, az_edr_type, before_first, before_zeros, content, content_is, content_now, differ_by_names, differ_rows, edit, either, ends, entry, eq-eqb, eqb, eqb-true, false, file, file_same, filled_size, filled_sound, fills, fine_is_some, flat_map, gdr_adr_head, gdr_num_attr, gdr_offset, gdr_place, good_by_its_shape, good_image_if, good_is_sound, got-middle, if◌then◌else◌, image_limit, inl, inr, is_among, is_bad_name, keep_attributes_alone, keep_places, keeps_away, keeps_fields, length, length-append, linkable-in, linkable-type, lives_clear, longest, making_marks, map, map-append, more_there, name_in, names_at, names_differ, nat_le, new_attribute, new_in, new_once, new_part, new_pushed, new_typed, next_field, number, number_rows-push, number_rows_kept, nums_stay, of_le, only_of, owned, owned_by, owned_by_attributes, owned_once_if, r_vdrs_rows, refl, remaining_names, same_name, scope_code, scope_of, shape, shape_is, shape_now, slice_get, spliced, spliced_times, stands_in, subst, suc, sym, tile_lies, times, type_at, unused_chain, unused_kept, used_times, variables_kept, vdrs, z_vdrs_rows, ℕ, ◌&&◌, ◌++◌, ◌+◌, ◌-◌, ◌<◌, ◌==◌, ◌^◌, ◌∙◌, ◌∷◌, ◌≡◌, ◌≢◌, ◌≤◌}
+use Rattle.cdf_attrs.proofs.Common.{Act, Added, AllKeep, AllKeep-append, Allowances, AreNew, AreThere, Attr, Attribute, AttributeLives, AttributeShape, Attrs, Bool, ByStep, Command, DataSet, Each, Edit, Follows, Go, Good, HasShape, Hold, Hold-append, Hold-split, In, IsChain, IsGoodByShape, IsJoined, IsSound, Keeps, List, MakesAttribute, Mark, OneAttribute, Only, OwnRules, Plain, Scope, Shape, Some, Splices, Took, [], acts_then, adding_marks, adr_body, adr_name, adr_num, adr_scope, adr_type, adrs, adrs_linked, adrs_rows, agr_edr_type, all_remain, all_unmarked-away, and_from, ap, append-nil, arith, attr_changes, attribute_names, attribute_names_are, attribute_of, attribute_records, attribute_shape_rows, attributes_gdr_fields, az_edr_type, before_first, before_zeros, content, content_is, content_now, differ_by_names, differ_rows, edit, either, ends, entry, eq-eqb, eqb, eqb-true, false, file, file_same, filled_size, filled_sound, fills, fine_is_some, flat_map, gdr_adr_head, gdr_num_attr, gdr_offset, gdr_place, good_by_its_shape, good_image_if, good_is_sound, good_long, got-middle, if◌then◌else◌, image_limit, inl, inr, is_among, is_bad_name, keep_attributes_alone, keep_places, keeps_away, keeps_fields, length, length-append, linkable-in, linkable-type, lives_clear, longest, making_marks, map, map-append, more_there, name_in, names_at, names_differ, nat_le, new_attribute, new_in, new_once, new_part, new_pushed, new_typed, next_field, number, number_rows-push, number_rows_kept, nums_stay, of_le, only_of, owned, owned_by, owned_by_attributes, owned_once_if, r_vdrs_rows, refl, remaining_names, rules_of_good, same_name, scope_code, scope_of, sealed_kept, shape, shape_is, shape_now, slice_get, spliced, spliced_times, stands_in, subst, suc, sym, tile_lies, times, type_at, unused_chain, unused_kept, used_times, variables_kept, vdrs, z_vdrs_rows, ℕ, ◌&&◌, ◌++◌, ◌+◌, ◌-◌, ◌<◌, ◌==◌, ◌^◌, ◌∙◌, ◌∷◌, ◌≡◌, ◌≢◌, ◌≤◌}
 use Rattle.std.proofs.Common.{not}
 use Rattle.std.specs.List.{All}
 use Rattle.cdf_model.specs.declared.kinds.Scope.TheVariants.{Global, Variable, GlobalAssumed, VariableAssumed}
@@ -227,7 +227,7 @@ module _ {b now : List ℕ} {place : ℕ} (name : List ℕ) (scope : Scope) (ima
       record {
         reply = Plain;
         goes = rw (well_named, free) (ap (λ (d : DataSet). ByStep (Go d Plain)) (sym content_is_made));
-        good = good_image_if sound splices image good rules (ends sound j) (omega arith);
+        good = good_image_if sound splices (sealed_kept b (good_long b s good) (rules_of_good b image)).0 good rules (ends sound j) (omega arith);
         longer = e.longer;
         within = within;
         reads = λ q. absurd cc;

@@ -201,7 +201,7 @@ module _ (b now : List ℕ) (from to : List ℕ) (good : Good b) (before : List 
       record {
         reply = replies.Plain;
         goes = ap ByStep (goes ∙ ap (λ (d : DataSet). Go d replies.Plain) (sym content_now));
-        good = good_image_if sound splices good image rules end (let l = r.length_stays in omega arith);
+        good = good_image_if sound splices first image rules end (let l = r.length_stays in omega arith);
         longer = let l = r.length_stays in omega arith;
         within = let l = r.length_stays in omega arith;
         reads = λ e. absurd cc;

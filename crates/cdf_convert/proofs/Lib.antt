@@ -1,6 +1,5 @@
 pub mod Causes
 pub mod FewRecords
-pub mod PlainMeaning
 pub mod Stopped
 pub mod TakenSoFar
 pub mod WholeCopy

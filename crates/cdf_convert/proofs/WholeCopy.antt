@@ -6,12 +6,12 @@ use Rattle.cdf_convert.proofs.Stopped.{passes_limit}
 use Rattle.cdf_convert.specs.Errors.{NamesRecord, PassesLimit}
 use Rattle.cdf_convert.specs.declared.error.ConvertError.{ConvertError}
 use Rattle.cdf_format.specs.Content.{content}
-use Rattle.cdf_format.specs.Sealed.{sealed}
-use Rattle.cdf_format.specs.WellFormed.{Good, KeepsFormat}
+use Rattle.cdf_format.specs.NotRead.{IsRead}
+use Rattle.cdf_format.specs.WellFormed.{Good}
 use Rattle.cdf_model.specs.DataSet.{DataSet}
 use Rattle.cdf_model.specs.Events.{events_of}
 use Rattle.cdf_model.specs.Limits.{image_limit}
-use Rattle.cdf_writer.proofs.Whole.{compact_good, compact_keeps, compact_means, of_fine}
+use Rattle.cdf_writer.proofs.Whole.{compact_good, compact_means, compact_read, of_fine}
 use Rattle.cdf_writer.specs.Compact.{compact}
 use Rattle.cdf_writer.specs.Fine.{Fine, PlainVariables}
 use Rattle.cdf_writer.specs.Taken.{Took, area_of}
@@ -42,8 +42,8 @@ module _ {A U : Type 0} (image_of : A → List ℕ) (frame_of : A → Frame U) (
   pub copy_means : OnOk done (content (image_of area) ≡ d)
   copy_means = on_done done (λ t. subst (λ (b : List ℕ). content b ≡ d) (sym (whole t)) (compact_means d (of_fine d fine (short t)) fine.attributes fine.variables)) took
 
-  pub copy_keeps : OnOk done (KeepsFormat (sealed (image_of area)))
-  copy_keeps = on_done done (λ t. subst (λ (b : List ℕ). KeepsFormat (sealed b)) (sym (whole t)) (compact_keeps d (of_fine d fine (short t)) fine.attributes fine.variables)) took
+  pub copy_good : OnOk done (Good (image_of area))
+  copy_good = on_done done (λ t. subst Good (sym (whole t)) (compact_good d (of_fine d fine (short t)) fine.attributes fine.variables)) took
 
-  pub copy_good : PlainVariables d → OnOk done (Good (image_of area))
-  copy_good plain = on_done done (λ t. subst Good (sym (whole t)) (compact_good d (of_fine d fine (short t)) fine.attributes fine.variables plain)) took
+  pub copy_read : PlainVariables d → OnOk done (IsRead (image_of area))
+  copy_read plain = on_done done (λ t. subst IsRead (sym (whole t)) (compact_read d (of_fine d fine (short t)) fine.attributes fine.variables plain)) took

@@ -5,8 +5,8 @@ ghost use Rattle.cdf_base.specs.Causes.{HasCauseOf};
 ghost use Rattle.cdf_convert.specs.Errors.{EndsBefore, NamesRecord, PassesLimit};
 ghost use Rattle.cdf_convert.specs.declared.error.ConvertError.TheVariants.{SourceFault, TargetFault};
 ghost use Rattle.cdf_format.specs.Content.{content};
-ghost use Rattle.cdf_format.specs.Sealed.{sealed};
-ghost use Rattle.cdf_format.specs.WellFormed.{Good, KeepsFormat};
+ghost use Rattle.cdf_format.specs.NotRead.{IsRead};
+ghost use Rattle.cdf_format.specs.WellFormed.{Good};
 ghost use Rattle.cdf_model.specs.DataSet.{DataSet};
 ghost use Rattle.cdf_model.specs.Events.{events_of};
 ghost use Rattle.cdf_model.specs.Limits.{image_limit};
@@ -74,8 +74,8 @@ pub fn write_compact<P: Parts, B: Area>(alloc: Global, parts: &mut P, area: B) -
     requires most { (B.frame area).limit ≤ image_limit }
     ensures written { OnOk result.done (B.image result.area ≡ compact (P.told parts.old)) }
     ensures content { OnOk result.done (content (B.image result.area) ≡ P.told parts.old) }
-    ensures keeps { OnOk result.done (KeepsFormat (sealed (B.image result.area))) }
-    ensures good { PlainVariables (P.told parts.old) → OnOk result.done (Good (B.image result.area)) }
+    ensures good { OnOk result.done (Good (B.image result.area)) }
+    ensures read { PlainVariables (P.told parts.old) → OnOk result.done (IsRead (B.image result.area)) }
     ensures fits { OnOk result.done (length (compact (P.told parts.old)) ≤ (B.frame area).limit) }
     ensures too_large { IfErr result.done (PassesLimit (B.frame area).limit (P.told parts.old)) }
     ensures named { IfErr result.done (NamesRecord (B.frame area).limit (P.told parts.old)) }

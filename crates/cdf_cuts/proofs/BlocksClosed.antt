@@ -10,7 +10,6 @@ use Rattle.cdf_format.proofs.BytesLemmas.{type_kept}
 use Rattle.cdf_index.proofs.Common.{behind_in, size_kept}
 use Rattle.cdf_index.proofs.LeafRules.{index_order}
 use Rattle.cdf_index.specs.Order.{InOrder}
-use Rattle.cdf_edits.proofs.Edits.StandsAmong.{loose}
 use Rattle.cdf_cuts.proofs.BlocksMoved.{leaf_stays, times_add}
 use Rattle.cdf_cuts.proofs.ClosedUp.{fallen_high, fallen_rises}
 use Rattle.cdf_cuts.proofs.CutFreed.{own_most}
@@ -30,8 +29,9 @@ use Rattle.cdf_edits.specs.Commands.GreatestRecord.{r_max_rec}
 use Rattle.cdf_format.specs.Records.{vdr_max_rec}
 use Rattle.cdf_format.specs.Bytes.{byte}
 use Rattle.cdf_format.proofs.BytesLemmas.{word_kept}
+use Rattle.cdf_format.specs.Shape.{is_compressed}
 
-module _ {b mid : List ℕ} {kind : Kind} {before : List VariableShape} {own : VariableShape} {after : List VariableShape} {first last : ℕ} (good : Good b) (at : StandsAmong b kind before own after) (order : first ≤ last) (short : length b ≤ image_limit) (c : IsCut b mid kind own (closing first last)) where
+module _ {b mid : List ℕ} {kind : Kind} {before : List VariableShape} {own : VariableShape} {after : List VariableShape} {first last : ℕ} (good : Good b) (at : StandsAmong b kind before own after) (order : first ≤ last) (short : length b ≤ image_limit) (c : IsCut b mid kind own (closing first last)) (loose : is_compressed b own.vdr ≡ false) where
   abbrev leaves : List Leaf
   leaves = leaves_of own.index
 
@@ -42,7 +42,7 @@ module _ {b mid : List ℕ} {kind : Kind} {before : List VariableShape} {own : V
   freed = freed_closing own first last
 
   plain : (l : Leaf) → IsOneOf leaves l → PlainLeaf b size l
-  plain l i = plain_leaf good at (loose good at) l i
+  plain l i = plain_leaf good at loose l i
 
   unpacked : Each (λ (l : Leaf). l.packed ≡ false) leaves
   unpacked = each_of (λ (l : Leaf). l.packed ≡ false) leaves (λ l i. (plain l i).plain)
@@ -106,6 +106,7 @@ module _ {b mid : List ℕ} {kind : Kind} {before : List VariableShape} {own : V
     pub records_closed : RecordsClosed b now kind before own after first last
     records_closed = elim up [
       | inl none ↦ record {
+        loose = loose;
         index = subst (λ (y : List ℕ). IndexClosed b y kind before own after first last) (sym none.0) index_cut;
         blocks = block_now;
         max_rec_is = subst (λ (y : List ℕ). number y own.vdr vdr_max_rec ≡ number b own.vdr vdr_max_rec) (sym none.0) (max_rec_now good at order c.is_linked short mid c.given);
@@ -130,6 +131,7 @@ module _ {b mid : List ℕ} {kind : Kind} {before : List VariableShape} {own : V
           let room : 12 + (max first l.first - l.first) * size + (l.last - last) * size ≤ size_at mid l.place = omega (arith, long, x.room, sum, most) in
           let writes = moved_writes l.place from to many index_cut.goes.good index_cut.goes.among (stays_left l i less) typed (omega arith) room one.1.1.joins in
           record {
+            loose = loose;
             index = index_then good at index_cut writes;
             blocks = block_now;
             max_rec_is = moved_max_rec l.place from to many index_cut.goes.good index_cut.goes.among (stays_left l i less) typed (omega arith) room one.1.1.joins ∙ max_rec_now good at order c.is_linked short mid c.given;

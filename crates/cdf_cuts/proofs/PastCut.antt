@@ -23,7 +23,6 @@ use Rattle.cdf_model.specs.Limits.{record_number_limit}
 use Rattle.cdf_puts.proofs.Common.{same_as_itself}
 use Rattle.cdf_puts.proofs.GoesThen.{own_there}
 use Rattle.cdf_puts.proofs.PutRules.{no_cpr}
-use Rattle.cdf_edits.proofs.Edits.StandsAmong.{loose}
 use Rattle.cdf_puts.specs.Going.{GoesOn, found_in}
 use Rattle.cdf_cuts.proofs.ChainKept.{top_left}
 use Rattle.cdf_cuts.proofs.CutDone.{each_from}
@@ -36,6 +35,7 @@ use Rattle.cdf_cuts.proofs.GoesKeep.{each_own, goes_keep}
 use Rattle.cdf_cuts.proofs.PastKept.{kept_same, same_index, some_left}
 use Rattle.cdf_cuts.specs.Cut.{IsCut}
 use Rattle.cdf_cuts.specs.Past.{CutPast, before_first, cut_off, past_acts, past_span, stage}
+use Rattle.cdf_format.specs.Shape.{is_compressed}
 
 -- ---- marks
 
@@ -48,7 +48,7 @@ space_tests Z v nodes n unused freed = (refl, refl)
 pub aside : (n : ℕ) → OutsideFields (vdr_vxr_head ∷ vdr_vxr_tail ∷ []) n → (n + 1 ≤ 28) ⊎ (44 ≤ n)
 aside n out = elim out.0 [ inl x ↦ inl (omega arith) | inr x ↦ elim out.1.0 [ inl y ↦ absurd (omega arith) | inr y ↦ inr y ] ]
 
-module _ {b now : List ℕ} {kind : Kind} {before : List VariableShape} {own : VariableShape} {after : List VariableShape} {first : ℕ} (good : Good b) (at : StandsAmong b kind before own after) (short : length b ≤ image_limit) (c : IsCut b now kind own (past_span first)) where
+module _ {b now : List ℕ} {kind : Kind} {before : List VariableShape} {own : VariableShape} {after : List VariableShape} {first : ℕ} (good : Good b) (at : StandsAmong b kind before own after) (short : length b ≤ image_limit) (c : IsCut b now kind own (past_span first)) (loose : is_compressed b own.vdr ≡ false) where
   abbrev leaves : List Leaf
   leaves = leaves_of own.index
 
@@ -71,7 +71,7 @@ module _ {b now : List ℕ} {kind : Kind} {before : List VariableShape} {own : V
   was_order = index_order b (shape b).records own.vdr own.index (own_rules good at).1
 
   plain : (l : Leaf) → IsOneOf leaves l → PlainLeaf b (record_bytes b own.vdr) l
-  plain l i = plain_leaf good at (loose good at) l i
+  plain l i = plain_leaf good at loose l i
 
   unpacked : Each (λ (l : Leaf). l.packed ≡ false) leaves
   unpacked = each_of (λ (l : Leaf). l.packed ≡ false) leaves (λ l i. (plain l i).plain)
@@ -158,7 +158,7 @@ module _ {b now : List ℕ} {kind : Kind} {before : List VariableShape} {own : V
   own_keeps = each_own (λ (m : ℕ). Keeps b now m (own_may m)) own (rw (of_own.descriptor_allowed (found_in b kind before own) good at refl heads block_may own_may allowed) descriptor)
       (λ m i. rw (of_own.node_allowed (found_in b kind before own) good at refl heads block_may own_may allowed m i) tt)
       (λ l i. rw (of_own.block_allowed (found_in b kind before own) good at refl heads block_may own_may allowed l i) (block_keeps l i))
-      (λ m i. absurd (subst (In m) (no_cpr good at) i))
+      (λ m i. absurd (subst (In m) (no_cpr good at loose) i))
 
   keeps : AllKeep b now may acts (owned b (shape b))
   keeps = goes_keep good at goes_on may gdr own_keeps
@@ -179,6 +179,7 @@ module _ {b now : List ℕ} {kind : Kind} {before : List VariableShape} {own : V
 
   whole : CutPast b now kind before own left after first
   whole = record {
+    loose = loose;
     goes_on = goes_on;
     long = long_now good at order c.is_linked short now c.given;
     cuts = cuts;

@@ -1,5 +1,5 @@
 -- What the reads come to by which the room of `del-recs` is found.
-use Rattle.cdf_cuts.proofs.Common.{List, None, Option, Some, ap, arith, image_limit, index_at, leaves_of, length, number, option_map, sym, tile_lies, ℕ, ◌*◌, ◌+◌, ◌∙◌, ◌≡◌, ◌≤◌}
+use Rattle.cdf_cuts.proofs.Common.{List, None, Option, Some, ap, arith, image_limit, index_at, leaves_of, length, number, option_map, sym, tile_lies, ℕ, ◌*◌, ◌+◌, ◌∙◌, ◌≡◌, ◌≤◌, false}
 use Rattle.cdf_model.specs.declared.kinds.Sparse.TheVariants.{NoRule}
 use Rattle.cdf_edits.proofs.Common.{Good, Kind, VariableShape, record_bytes, shape, variable_of, vdr_vxr_head}
 use Rattle.cdf_edits.proofs.Edits.Common.{StandsAmong, sound}
@@ -11,10 +11,10 @@ use Rattle.cdf_index.proofs.Common.{behind_in, leaf_of}
 use Rattle.cdf_index.specs.Sight.{seen}
 use Rattle.cdf_index.specs.declared.nodes.Leaf.{Leaf as FoundLeaf}
 use Rattle.cdf_puts.proofs.PutBytes.{found_covering}
-use Rattle.cdf_edits.proofs.Edits.StandsAmong.{loose}
 use Rattle.cdf_cuts.proofs.ClosingRoom.{room_is}
 use Rattle.cdf_cuts.proofs.CutCalls as by
 use Rattle.cdf_cuts.specs.ClosingRoom.{IsSmall, back_room, front_room}
+use Rattle.cdf_format.specs.Shape.{is_compressed}
 
 module _ {b : List ℕ} (good : Good b) {kind : Kind} {before : List VariableShape} {own : VariableShape} {after : List VariableShape} {vdr : ℕ} (among : StandsAmong b kind before own after) (is : own.vdr ≡ vdr) {x : List ℕ} {head : ℕ} (same : x ≡ b) (head_is : head ≡ number b vdr vdr_vxr_head) {rec_bytes : ℕ} (size : rec_bytes ≡ record_bytes b vdr) where
   index_same : index_at x head ≡ own.index
@@ -23,11 +23,11 @@ module _ {b : List ℕ} (good : Good b) {kind : Kind} {before : List VariableSha
   size_own : rec_bytes ≡ record_bytes b own.vdr
   size_own = size ∙ ap (record_bytes b) (sym is)
 
-  pub small : (short : length b ≤ image_limit) (rec : ℕ) (found : Option FoundLeaf) → option_map seen found ≡ leaf_of rec (leaves_of (index_at x head)) → IsSmall rec_bytes found
-  small short rec None e = tt
-  small short rec (Some l) e =
+  pub small : is_compressed b vdr ≡ false → (short : length b ≤ image_limit) (rec : ℕ) (found : Option FoundLeaf) → option_map seen found ≡ leaf_of rec (leaves_of (index_at x head)) → IsSmall rec_bytes found
+  small unpacked short rec None e = tt
+  small unpacked short rec (Some l) e =
       let i = (found_covering rec (leaves_of own.index) (seen l) (sym (rw index_same at e))).0 in
-      let p = plain_leaf good among (loose good among) (seen l) i in
+      let p = plain_leaf good among (ap (is_compressed b) is ∙ unpacked) (seen l) i in
       let lies = tile_lies b 8 (length b) (shape b).records l.at (sound good among).has_shape.tiled (behind_in good among l.at (block_behind own l.at (place_in (leaves_of own.index) (seen l) i))) in
       (p.ordered, p.small, rw size_own (omega (arith, p.room, lies.high, short)))
 

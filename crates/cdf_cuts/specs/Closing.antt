@@ -1,5 +1,5 @@
 -- Records that go from the index and the blocks of a variable, of which no block is packed, where later ones close up: what the image has by then (own).
-use Rattle.std.specs.Prelude.{◌≡◌, ◌<◌, ◌≤◌, ℕ, ◌+◌, List, [], ◌∷◌, length, bytes_eq, if◌then◌else◌}
+use Rattle.std.specs.Prelude.{◌≡◌, ◌<◌, ◌≤◌, ℕ, ◌+◌, List, [], ◌∷◌, length, bytes_eq, if◌then◌else◌, false}
 use Rattle.cdf_edits.proofs.Edits.LeafPieces.{IsOneOf}
 use Rattle.cdf_edits.specs.Commands.Allowances.{FreedStay, no_fields}
 use Rattle.cdf_edits.specs.Commands.GreatestRecord.{r_max_rec}
@@ -11,7 +11,7 @@ use Rattle.cdf_edits.specs.Space.Acts.{Act, gave}
 use Rattle.cdf_format.specs.Fields.{number, size_at}
 use Rattle.cdf_format.specs.Index.{Leaf, leaves_of, nodes_of}
 use Rattle.cdf_format.specs.Records.{vdr_max_rec, vdr_vxr_tail}
-use Rattle.cdf_format.specs.Shape.{VariableShape}
+use Rattle.cdf_format.specs.Shape.{VariableShape, is_compressed}
 use Rattle.cdf_format.specs.Tiles.{In}
 use Rattle.cdf_format.specs.VariableFields.{record_bytes}
 use Rattle.cdf_index.specs.Replacing.{with_index}
@@ -51,6 +51,7 @@ pub record BlockStays (b now : List ℕ) (size first last : ℕ) (l : Leaf) : Ty
 
 -- likewise, with its blocks, and MaxRec and rMaxRec as they were
 pub record RecordsClosed (b now : List ℕ) (kind : Kind) (before : List VariableShape) (own : VariableShape) (after : List VariableShape) (first last : ℕ) : Type 0 where
+  pub loose : is_compressed b own.vdr ≡ false
   pub index : IndexClosed b now kind before own after first last
   pub blocks : (l : Leaf) → IsOneOf (leaves_of own.index) l → fallen first last l.first < fallen first last (l.last + 1) → BlockStays b now (record_bytes b own.vdr) first last l
   pub max_rec_is : number now own.vdr vdr_max_rec ≡ number b own.vdr vdr_max_rec

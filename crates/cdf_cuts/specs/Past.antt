@@ -9,7 +9,7 @@ use Rattle.cdf_edits.specs.Space.Acts.{Act, gave}
 use Rattle.cdf_format.specs.Fields.{number}
 use Rattle.cdf_format.specs.Index.{leaves_of}
 use Rattle.cdf_format.specs.Records.{vdr_max_rec}
-use Rattle.cdf_format.specs.Shape.{Each, VariableShape}
+use Rattle.cdf_format.specs.Shape.{Each, VariableShape, is_compressed}
 use Rattle.cdf_index.specs.Replacing.{with_index}
 use Rattle.cdf_model.specs.DataSet.{Variable}
 use Rattle.cdf_model.specs.Limits.{record_number_limit}
@@ -40,6 +40,7 @@ stage image own acts next = record { image = image; own = own; acts = acts; next
 
 -- An image goes on to one in which the variable has another index, of which these records are gone: only blocks that had one of them change, and MaxRec and rMaxRec are as they were.
 pub record CutPast (b now : List ℕ) (kind : Kind) (before : List VariableShape) (own own' : VariableShape) (after : List VariableShape) (first : ℕ) : Type 0 where
+  pub loose : is_compressed b own.vdr ≡ false
   pub goes_on : GoesOn b now kind before own own' after (past_acts b own first)
   pub long : length now ≡ length b
   pub cuts : (v : Variable) → CutsIndex v (before_first first) own.index own'.index own'.index (past_acts b own first)

@@ -1,13 +1,13 @@
 //! Records cut out of the index of a variable, where later ones keep their numbers or close up.
 
-ghost use Rattle.std.specs.Prelude.{◌≡◌, ◌<◌, ◌≤◌, suc, ◌^◌, ◌++◌, ◌+◌, ◌-◌, ◌*◌, List, length, IfOk, OnOk};
+ghost use Rattle.std.specs.Prelude.{◌≡◌, ◌<◌, ◌≤◌, suc, ◌^◌, ◌++◌, ◌+◌, ◌-◌, ◌*◌, List, length, IfOk, OnOk, false};
 ghost use Rattle.cdf_area.specs.Calls.{Edits, Reads};
 ghost use Rattle.cdf_edits.proofs.Edits.LeafRecords.{Ascending};
 ghost use Rattle.cdf_edits.proofs.Edits.VdrEdited.{StandsAmong};
 ghost use Rattle.cdf_format.specs.Fields.{LiesIn};
 ghost use Rattle.cdf_format.specs.Index.{leaves_of};
 ghost use Rattle.cdf_format.specs.Records.{vdr_vxr_head, vdr_vxr_tail, vvr_place};
-ghost use Rattle.cdf_format.specs.Shape.{VariableShape, shape, variables, vdrs};
+ghost use Rattle.cdf_format.specs.Shape.{VariableShape, shape, variables, vdrs, is_compressed};
 ghost use Rattle.cdf_format.specs.Tiles.{In};
 ghost use Rattle.cdf_format.specs.VariableFields.{record_bytes};
 ghost use Rattle.cdf_format.specs.WellFormed.{Good};
@@ -154,6 +154,7 @@ pub fn close_records<A: Area>(
 ) -> Result<(), AreaError>
     requires good { Good (A.image area.old) }
     requires vdr { In vdr (vdrs (variables (shape (A.image area.old)))) }
+    requires unpacked { is_compressed (A.image area.old) vdr ≡ false }
     requires size { rec_bytes ≡ record_bytes (A.image area.old) vdr }
     requires order { first ≤ last }
     requires short { length (A.image area.old) ≤ image_limit }
@@ -182,6 +183,7 @@ pub fn close_records<A: Area>(
 pub fn cut_past<A: Area>(alloc: Global, area: &mut A, vdr: u64, first: u32) -> Result<(), AreaError>
     requires good { Good (A.image area.old) }
     requires vdr { In vdr (vdrs (variables (shape (A.image area.old)))) }
+    requires unpacked { is_compressed (A.image area.old) vdr ≡ false }
     requires short { length (A.image area.old) ≤ image_limit }
     ensures past { OnOk result ((kind : Kind) (before : List VariableShape) (own : VariableShape) (after : List VariableShape) → StandsAmong (A.image area.old) kind before own after → own.vdr ≡ vdr → CutPast (A.image area.old) (A.image area.new) kind before own (cut_off own first) after first) }
     ensures area { Edits A.frame A.faults area.old area.new result }

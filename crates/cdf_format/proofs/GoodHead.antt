@@ -1,6 +1,6 @@
 -- What a good image has of its two first records, and how long the image of a file is.
 use Rattle.std.proofs.Common.{◌≡◌, ℕ, ◌+◌, ◌-◌, ◌*◌, ◌^◌, ◌≤◌, ◌<◌, List, length, sym, ap, subst, ◌∙◌, arith}
-use Rattle.cdf_format.proofs.Common.{length-take, get_or_append_left, nat_le, IsSound, word, number, size_at, gdr_offset, eof, r_num_dims, counted, is_record, gdr_r_num_dims, cdr_type, gdr_type, fixed_size, trailer, trailer_length, image_of, sealed, shape, WellFormed, Good}
+use Rattle.cdf_format.proofs.Common.{length-take, get_or_append_left, nat_le, IsSound, word, number, size_at, gdr_offset, eof, r_num_dims, counted, is_record, gdr_r_num_dims, cdr_type, gdr_type, fixed_size, trailer, trailer_length, image_of, sealed, shape, KeepsFormat, Good}
 use Rattle.std.proofs.lemmas.Int.{to_z_pos}
 use Rattle.std.specs.Int.{w64}
 use Rattle.cdf_model.specs.Limits.{image_limit}
@@ -9,7 +9,6 @@ use Rattle.cdf_format.specs.Records.{gdr_eof}
 use Rattle.cdf_format.proofs.BytesLemmas.{word-same}
 use Rattle.cdf_format.proofs.ChainsLemmas.{is_a-in, is_a-type}
 use Rattle.cdf_format.proofs.FileRecords.{gdr_holds}
-use Rattle.cdf_format.proofs.FormatKept.{keeps}
 use Rattle.cdf_format.proofs.GoodSound.{good_is_sound}
 use Rattle.cdf_format.proofs.ImageOf.{short_trailer, sealed_is_file}
 use Rattle.cdf_format.proofs.Tests.{both, le_of, eq_of}
@@ -65,7 +64,7 @@ module _ (b : List ℕ) (good : Good b) where
       let long = cdr_fits in
       let g : gdr_offset f ≡ gdr_offset b = word_of_sealed b 20 8 (omega arith) in
       let least = 84 + 4 * r_num_dims f (gdr_offset f) in
-      let few : number f (gdr_offset f) gdr_r_num_dims ≤ 10 = le_of (number f (gdr_offset f) gdr_r_num_dims) 10 (both (nat_le (number f (gdr_offset f) gdr_r_num_dims) 10) (is_record f (gdr_offset f) 2 least) (gdr_holds f (keeps f good)).0).0 in
+      let few : number f (gdr_offset f) gdr_r_num_dims ≤ 10 = le_of (number f (gdr_offset f) gdr_r_num_dims) 10 (both (nat_le (number f (gdr_offset f) gdr_r_num_dims) 10) (is_record f (gdr_offset f) 2 least) (gdr_holds f good).0).0 in
       let here : number f (gdr_offset b) gdr_r_num_dims ≤ 10 = subst (λ (p : ℕ). number f p gdr_r_num_dims ≤ 10) g few in
       subst (λ (n : ℕ). n ≤ 10) (word_of_sealed b (gdr_offset b + 56) 4 (inside (gdr_offset b) (length b) gdr_fits)) here
     where
@@ -74,19 +73,19 @@ module _ (b : List ℕ) (good : Good b) where
 
 -- ---- the image of a well-formed file
 
-pub image_is_good : (f : List ℕ) → WellFormed f → Good (image_of f)
-image_is_good f holds = subst WellFormed (sym (sealed_is_file f (keeps f holds))) holds
+pub image_is_good : (f : List ℕ) → KeepsFormat f → Good (image_of f)
+image_is_good f holds = subst KeepsFormat (sym (sealed_is_file f holds)) holds
 
-pub trailer_fits : (f : List ℕ) → WellFormed f → trailer_length f ≤ length f
+pub trailer_fits : (f : List ℕ) → KeepsFormat f → trailer_length f ≤ length f
 trailer_fits f holds =
     let t = short_trailer f in
     let long : 320 ≤ length f = le_of 320 (length f) holds.1.1.0.0 in
     omega arith
 
-pub image_fits : (f : List ℕ) → WellFormed f → length (image_of f) ≤ image_limit
+pub image_fits : (f : List ℕ) → KeepsFormat f → length (image_of f) ≤ image_limit
 image_fits f holds =
     let g = gdr_offset f in
-    let rows = gdr_holds f (keeps f holds) in
+    let rows = gdr_holds f holds in
     let end : eof f g ≡ length f - trailer_length f = eq_of (eof f g) (length f - trailer_length f) rows.1.1.0 in
     let small : counted (integer8 f g gdr_eof) ≤ image_limit = le_of (counted (integer8 f g gdr_eof)) image_limit rows.1.1.1.0 in
     let short : length f ≤ image_limit + 16 = le_of (length f) (image_limit + 16) holds.0.1.0 in

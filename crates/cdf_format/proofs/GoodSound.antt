@@ -1,23 +1,18 @@
 -- A good image is good by its shape, and sound.
 use Rattle.std.proofs.Common.{◌≡◌, ℕ, ◌+◌, ◌≤◌, List, length, true, sym, ap, subst, ◌∙◌, arith, ◌-◌, take, eqb}
-use Rattle.cdf_format.proofs.Common.{length-append, length-take, get_or_append_left, eqb-true, IsSound, Same, size_at, eof, gdr_offset, gdr_type, fixed_size, trailer, trailer_length, sealed, shape, KeepsFormat, Good, AllHold, Hold, Shape}
+use Rattle.cdf_format.proofs.Common.{length-append, length-take, get_or_append_left, eqb-true, IsSound, Same, size_at, eof, gdr_offset, gdr_type, fixed_size, trailer, trailer_length, sealed, shape, KeepsFormat, Good}
 use Rattle.cdf_format.proofs.GoodByShape.{IsGoodByShape}
 use Rattle.cdf_format.proofs.Tests.{le_of}
 use Rattle.cdf_format.proofs.TilesLemmas.{tile_lies}
 use Rattle.cdf_format.proofs.ChainsLemmas.{is_a-in, is_a-type}
 use Rattle.cdf_format.proofs.BytesLemmas.{word_kept}
-use Rattle.cdf_format.proofs.FormatKept.{is_read, is_well_formed, keeps}
-use Rattle.cdf_format.proofs.ShapeLemmas.{shape_is}
-use Rattle.cdf_format.specs.NotRead.{IsRead, unread_variables}
-use Rattle.cdf_format.specs.Phases.{first_phases}
-use Rattle.cdf_format.specs.Shape.{variables, vdrs}
 use Rattle.cdf_format.proofs.FileRecords.{gdr_holds}
 use Rattle.cdf_format.proofs.ImageOf.{short_trailer, trailer_is, sound_image_of, image_of-sealed}
-use Rattle.cdf_format.proofs.SealedRules.{good_long, sealed_keeps, sealed_kept}
+use Rattle.cdf_format.proofs.SealedRules.{sealed_kept}
 
--- a good image keeps the rules of the format once it is sealed
+-- a good image keeps all rules once it is sealed
 pub rules_of_good : (b : List ℕ) → Good b → KeepsFormat (sealed b)
-rules_of_good b good = keeps (sealed b) good
+rules_of_good b good = good
 
 good_is_long : (b : List ℕ) → Good b → 44 ≤ length b
 good_is_long b good =
@@ -33,23 +28,13 @@ good_by_its_shape b good = (sealed_kept b (good_is_long b good) (rules_of_good b
 pub good_is_sound : (b : List ℕ) → Good b → IsSound b (shape b)
 good_is_sound b good = subst (λ (x : List ℕ). IsSound x (shape x)) (image_of-sealed b (good_is_long b good)) (sound_image_of (sealed b) (rules_of_good b good))
 
--- all of it is read so far
-pub good_is_read : (b : List ℕ) → Good b → IsRead b
-good_is_read b good = subst IsRead (image_of-sealed b (good_is_long b good)) (is_read (sealed b) good)
-
--- an image that keeps the rules of the format, and whose variables are read so far, is good
-pub good_if_read : (b : List ℕ) (s : Shape) → AllHold (first_phases (sealed b)) → IsGoodByShape b s → Hold (unread_variables b (vdrs (variables s))) → Good b
-good_if_read b s first image read =
-    let here : IsRead b = subst (λ (x : Shape). Hold (unread_variables b (vdrs (variables x)))) (sym (shape_is b s image.has_shape)) read in
-    is_well_formed (sealed b) (sealed_keeps b s first image) (subst IsRead (sym (image_of-sealed b (good_long b s image))) here)
-
 -- its eof is its length
 pub good_eof : (b : List ℕ) → Good b → eof b (gdr_offset b) ≡ length b
 good_eof b good =
     let f = sealed b in
     let long = good_is_long b good in
     let h = (good_is_sound b good).has_shape in
-    let row : eqb (eof f (gdr_offset f)) (length f - trailer_length f) ≡ true = (gdr_holds f (keeps f good)).1.1.0 in
+    let row : eqb (eof f (gdr_offset f)) (length f - trailer_length f) ≡ true = (gdr_holds f good).1.1.0 in
     let image : length (take (length f - trailer_length f) f) ≡ length b = ap length (image_of-sealed b long) in
     let n : length f - trailer_length f ≡ length b = omega (arith, length-take (length f - trailer_length f) f, image) in
     let same : Same b f 0 (length b) = record { each = λ i l lt. get_or_append_left b (trailer b) 0 i lt } in

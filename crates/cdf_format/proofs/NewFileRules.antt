@@ -1,10 +1,11 @@
 -- The new file keeps all rules, by computing them.
 use Rattle.std.proofs.Common.{◌≡◌, List, [], ◌∷◌, Bool, true, ◌&&◌, length, refl}
-use Rattle.cdf_format.proofs.Common.{all_phases, Row, Hold, AllHold, sealed, Good}
+use Rattle.cdf_format.proofs.Common.{format_phases, Row, Hold, AllHold, image_of, sealed, Good}
 use Rattle.cdf_model.specs.DataSet.{new_data_set}
 use Rattle.cdf_format.specs.Chains.{chain_on}
 use Rattle.cdf_format.specs.Content.{content}
 use Rattle.cdf_format.specs.NewFile.{new_image}
+use Rattle.cdf_format.specs.Phases.{phases_around}
 use Rattle.cdf_format.specs.Shape.{shape}
 use Rattle.cdf_format.specs.Tiles.{tiles_from}
 use Rattle.cdf_format.proofs.Tests.{both}
@@ -27,7 +28,7 @@ all_hold_by (rows ∷ phases) e = let two = both (hold rows) (all_hold phases) e
 
 pub new_is_good : Good new_image
 unfolding new_image shape tiles_from chain_on
-new_is_good = all_hold_by (all_phases (sealed new_image)) refl
+new_is_good = all_hold_by (phases_around (format_phases (image_of (sealed new_image))) (sealed new_image)) refl
 
 pub new_content : content new_image ≡ new_data_set
 unfolding new_image content shape tiles_from chain_on

@@ -15,6 +15,6 @@ Breaks f phase rule place = FirstBroken (all_phases f) phase rule place
 abbrev pub KeepsFormat : List ℕ → Type 0
 KeepsFormat f = AllHold (phases_around (format_phases (image_of f)) f)
 
--- an image that is well formed once it is sealed
+-- an image that keeps them once it is sealed
 abbrev pub Good : List ℕ → Type 0
-Good b = WellFormed (sealed b)
+Good b = KeepsFormat (sealed b)

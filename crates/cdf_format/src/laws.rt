@@ -144,8 +144,8 @@ pub fn new_file_is_good()
     ensures length { length new_image ≡ new_size }
 {}
 
-/// The image of a well-formed file is good, and it is not too long.
+/// The image of a file that keeps the rules of the format is good, and it is not too long.
 pub fn image_is_good()
-    ensures good { (f : List ℕ) → WellFormed f → Good (image_of f) }
-    ensures fits { (f : List ℕ) → WellFormed f → length (image_of f) ≤ image_limit }
+    ensures good { (f : List ℕ) → KeepsFormat f → Good (image_of f) }
+    ensures fits { (f : List ℕ) → KeepsFormat f → length (image_of f) ≤ image_limit }
 {}

@@ -3,7 +3,6 @@ use Rattle.cdf_puts.proofs.Common.{Act, Bool, Each, GoesOn, HoldsPads, Kind, Lea
 use Rattle.cdf_puts.proofs.CoveringRanges.{some_or_none}
 use Rattle.cdf_puts.proofs.DoneBytes as putting
 use Rattle.cdf_puts.proofs.PutBytes.{behind_all, found_covering}
-use Rattle.cdf_edits.proofs.Edits.StandsAmong.{loose}
 use Rattle.cdf_edits.specs.Commands.Room.{uncovered}
 use Rattle.cdf_edits.specs.Index.Written.{ReservedIs}
 use Rattle.std.specs.Prelude.{not, ◌==◌}
@@ -160,7 +159,7 @@ module _ {b mid now last : List ℕ} {kind : Kind} {before : List VariableShape}
         | inr n ↦ rw n.was_taken (λ p low high. n.spare p (omega (arith, low, end)) high)
       ] in
       record {
-        packed = λ e. absurd (true≢false (sym e ∙ loose t.good t.among));
+        packed = λ e. absurd (true≢false (sym e ∙ t.cut.loose));
         spare = subst (SpareIs b last own'.vdr l) (sym (takes_at l.place)) spare;
         reserved = reserved_plain b last (was_leaf olds l) l x.plain (is_taken_at (cut_acts ++ acts) l.place);
       }

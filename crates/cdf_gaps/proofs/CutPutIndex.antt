@@ -18,7 +18,6 @@ use Rattle.cdf_leaves.proofs.Own.{own_node}
 use Rattle.cdf_puts.proofs.DoneBytes.{last_writes, size_last}
 use Rattle.cdf_puts.proofs.DoneBytes.{put as put_done}
 use Rattle.cdf_puts.proofs.IndexWritten.{nodes_still, tail_still}
-use Rattle.cdf_edits.proofs.Edits.StandsAmong.{loose}
 use Rattle.cdf_puts.specs.Going.{GoesOn}
 use Rattle.cdf_puts.specs.SoFar.{NodesSoFar, taken_places}
 use Rattle.cdf_gaps.proofs.CutPutFreed.{freed_then, used_size}
@@ -44,7 +43,7 @@ module _ {b mid now last : List ℕ} {kind : Kind} {before : List VariableShape}
   same = variable_mid t
 
   rle : v.rle ≡ false
-  rle = loose t.good t.among
+  rle = t.cut.loose
 
   none_taken : taken cut ≡ []
   none_taken = taken-gave b (freed_of (plan_of (past_span first) 0 own.index))

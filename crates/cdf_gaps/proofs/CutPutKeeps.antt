@@ -32,7 +32,7 @@ module _ {b mid now last : List ℕ} {kind : Kind} {before : List VariableShape}
       let o = stays_left t l i e in
       let all = putting.all t.so t.done in
       let stands = behind_in goes.good goes.among l.place (block_behind own' l.place (place_in leaves l (all.stay l o))) in
-      let put_stays = block_stays (variable_of mid rest) r (all.old l o) stands (old_size (all.old l o) (omega (arith, (whole t.so.start.good t.so.start.among l o).leaf.room))) in
+      let put_stays = block_stays (variable_of mid rest) r (all.old l o) stands (old_size (all.old l o) (omega (arith, (whole t.so.start.good t.so.start.among t.so.start.loose l o).leaf.room))) in
       let none : is_rewritten (variable_of mid rest) r (range l.first l.last) ≡ false = ap (λ (w : Variable). is_rewritten w r (range l.first l.last)) (variable_mid t) ∙ e in
       stays_then b mid last l.place [] [] [] (is_left t l o).stays (subst (λ (p : Bool). Keeps mid last l.place (anything_if p)) none put_stays) (λ n out. (tt, tt))
 
@@ -57,7 +57,7 @@ module _ {b mid now last : List ℕ} {kind : Kind} {before : List VariableShape}
   own_keeps = each_own (λ (m : ℕ). Keeps b last m (own_may m)) own (rw (of_own.descriptor_allowed (found_in b kind before own) t.good t.among refl put_fields block_may own_may allowed) goes.descriptor)
       (λ m i. rw (of_own.node_allowed (found_in b kind before own) t.good t.among refl put_fields block_may own_may allowed m i) tt)
       (λ l i. rw (of_own.block_allowed (found_in b kind before own) t.good t.among refl put_fields block_may own_may allowed l i) (block_keeps l i))
-      (λ m i. absurd (subst (In m) (no_cpr t.good t.among) i))
+      (λ m i. absurd (subst (In m) (no_cpr t.good t.among t.cut.loose) i))
 
   pub keeps_then : AllKeep b last (put_changes b (shape b) (found_in b kind before own) r) (past_acts b own first ++ acts) (owned b (shape b))
   keeps_then = goes_keep t.good t.among goes may goes.gdr own_keeps

@@ -5,7 +5,6 @@ unfoldable use Rattle.cdf_edits.specs.Index.Blocks.{cover}
 use Rattle.cdf_edits.specs.Commands.Room.{packed_room}
 use Rattle.cdf_index.proofs.LeafRules.{index_order}
 use Rattle.cdf_index.specs.Order.{InOrder}
-use Rattle.cdf_edits.proofs.Edits.StandsAmong.{loose}
 use Rattle.cdf_cuts.proofs.PastContent.{variable_past}
 use Rattle.cdf_cuts.proofs.PastKept.{past_ranges}
 use Rattle.cdf_cuts.specs.Past.{CutPast, before_first, cut_off}
@@ -113,7 +112,7 @@ module _ {b mid : List ℕ} {kind : Kind} {before : List VariableShape} {own : V
   -- ---- the room
 
   room_is : (nodes : Nodes) → put_room (variable_of b own) nodes r ≡ blocks_room (variable_of b own) nodes (uncovered (variable_of b own) nodes r)
-  room_is nodes = omega (arith, no_packed v nodes r (loose good among))
+  room_is nodes = omega (arith, no_packed v nodes r cut.loose)
 
   pub room : put_room (variable_of mid (cut_off own first)) (cut_off own first).index r ≤ put_room (variable_of b own) own.index r
   room =

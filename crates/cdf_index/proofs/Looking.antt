@@ -1,5 +1,5 @@
 -- What is read at one node leads the search on.
-use Rattle.cdf_index.proofs.Common.{AreTiles, Ascends, At, ChainFrom, Entries, HasNodes, IsNode, List, LowerAreZero, NamesIn, NextsAreZero, NodeInside, Nodes, None, SaysEntry, Scanned, Some, SomeNode, arith, entry_count, eqb, find_entry, find_in, last_at, le-ltb, leaf, length, link_to, linkable-in, lt-ltb, next_of, no_node, nodes_of, nodes_passed, offset_at, passed_from, refl, room_at, subst, suc, sym, tile_lies, tiles, type_at, used_count, vxr_type, zero, ℕ, ◌*◌, ◌+◌, ◌<◌, ◌∙◌, ◌≡◌, ◌≢◌, ◌≤◌, Leaf, Option, Names, lower_nodes, nat_tests, length-append, eq-eqb, node, ne_eqb}
+use Rattle.cdf_index.proofs.Common.{AreTiles, Ascends, At, ChainFrom, Entries, HasNodes, IsNode, List, LowerAreZero, NamesIn, NextsAreZero, NodeInside, Nodes, None, SaysEntry, Scanned, Some, SomeNode, arith, entry_count, eqb, find_entry, find_in, last_at, le-ltb, leaf, length, link_to, linkable-in, lt-ltb, next_of, no_node, nodes_of, nodes_passed, offset_at, passed_from, refl, room_at, subst, suc, sym, tile_lies, tiles, type_at, used_count, vxr_type, zero, ℕ, ◌*◌, ◌+◌, ◌<◌, ◌∙◌, ◌≡◌, ◌≢◌, ◌≤◌, Leaf, Option, Names, lower_nodes, nat_tests, length-append, eq-eqb, ne_eqb}
 use Rattle.cdf_format.proofs.ChainsLemmas.{some_place}
 use Rattle.cdf_index.proofs.EntriesLeft.{EntriesLeft}
 pub use Rattle.cdf_index.proofs.FirstEntry.{node_there}

@@ -1,5 +1,5 @@
 -- All records are put: the index, what was taken for it and the bytes of the blocks are as the command says, and what is stored as each record. The image follows the command.
-use Rattle.cdf_puts.proofs.Common.{UnwrittenStay, stays_in_place, found_in, ◌≢◌, ListedStay, LooseStay, NewBlock, OldBlock, size_at, Act, AllKeep, Allowance, Allowances, Ascending, Beside, BlockFollows, BlocksSoFar, Changed, CutsFirst, DataSet, Found, GoesOn, HoldsPads, In, In-append, IsOneOf, Keeps, Kind, Leaf, List, MaxRecDone, NewBlock, Nodes, None, OneVariable, Only, Option, Outside, Outside-append, PlainLeaf, PutsBytes, PutsIndex, PutsLeaves, PutsRecord, RMaxRecFollows, Range, SoFar, Some, SpareIs, Unused, Variable, VariableShape, WritesRecords, [], anything_if, ap, append-nil, arith, behind_in, behind_kept, block_behind, block_end, both, bytes_eq, bytes_eq-same, cases_lt, content, count_is, covers, drop, drop-drop, drop_all, each_of, eq-eqb, eq_of, eqb-true, extent, false, false-is_in, filled, filter, filter-says, find, find_covering, first_written, greater, inl, inr, is_changed, is_little, is_rewritten, is_taken_at, is_written, keep_all, keep_attributes, keep_file, keep_kinds, keep_places, keep_variable_parts, keep_variables, keeps_stood, last_number, leaf_at, leaves_ascend, leaves_of, length, length-take, list_any, map, max, max_rec_at, max_rec_touches, min, nat_tests, ne_eqb, negsuc, nodes_of, option_map, other_kind, owned, pad_record, past, place_in, places_of, plain_bytes, plain_piece, pos, put_changes, put_fields, put_room, r_max_rec, r_max_rec_of_z, range, range_at, ranges_before_put, ranges_of, record_bytes, record_number_limit, record_of, record_place, records_in, records_of_leaf, refl, repeat, room, room_of_variable, same_Some, same_as_itself, same_of_bytes_eq, shape, shapes_of, shared, signed, sound, space_before, stays_alike, stays_all, stored_bytes, stored_in, subst, suc, sym, take, take-append-drop, times_le, top_chain, top_stays, touch, transport, true, true-is_in, true≢false, turned, type_alike, type_at, type_of_variable, uir_type, uncovered, unused_allowance, unused_in, unused_records, variable_named, variable_of, variable_records, variable_stays, vvr_place, was_leaf, with_record, with_sign, with_variable, written_in, zero, ℕ, ℤ, ◌*◌, ◌++◌, ◌+◌, ◌-◌, ◌<◌, ◌==◌, ◌∙◌, ◌∷◌, ◌≡◌, ◌≤◌, ◌⊎◌, is_sparse, either, cuts_before_put}
+use Rattle.cdf_puts.proofs.Common.{UnwrittenStay, stays_in_place, found_in, ◌≢◌, ListedStay, LooseStay, NewBlock, OldBlock, size_at, Act, AllKeep, Allowance, Allowances, Ascending, Beside, BlockFollows, BlocksSoFar, Changed, CutsFirst, DataSet, Found, GoesOn, HoldsPads, In, In-append, IsOneOf, Keeps, Kind, Leaf, List, MaxRecDone, NewBlock, Nodes, None, OneVariable, Only, Option, Outside, Outside-append, PlainLeaf, PutsBytes, PutsIndex, PutsLeaves, PutsRecord, RMaxRecFollows, Range, SoFar, Some, SpareIs, Unused, Variable, VariableShape, WritesRecords, [], anything_if, ap, append-nil, arith, behind_in, behind_kept, block_behind, block_end, both, bytes_eq, bytes_eq-same, cases_lt, content, count_is, covers, drop, drop-drop, drop_all, each_of, eq-eqb, eq_of, eqb-true, extent, false, false-is_in, filled, filter, filter-says, find, find_covering, first_written, greater, inl, inr, is_changed, is_little, is_rewritten, is_taken_at, is_written, keep_all, keep_attributes, keep_file, keep_kinds, keep_places, keep_variable_parts, keep_variables, keeps_stood, last_number, leaf_at, leaves_ascend, leaves_of, length, length-take, list_any, map, max, max_rec_at, max_rec_touches, min, nat_tests, ne_eqb, negsuc, nodes_of, option_map, other_kind, owned, pad_record, past, place_in, places_of, plain_bytes, plain_piece, pos, put_changes, put_fields, put_room, r_max_rec, r_max_rec_of_z, range, range_at, ranges_before_put, ranges_of, record_bytes, record_number_limit, record_of, record_place, records_in, records_of_leaf, refl, repeat, room, room_of_variable, same_Some, same_as_itself, same_of_bytes_eq, shape, shapes_of, shared, signed, sound, space_before, stays_alike, stays_all, stored_bytes, stored_in, subst, suc, sym, take, take-append-drop, times_le, top_chain, top_stays, touch, transport, true, true-is_in, true≢false, turned, type_alike, type_at, type_of_variable, uir_type, uncovered, unused_allowance, unused_in, unused_records, variable_named, variable_of, variable_records, variable_stays, vvr_place, was_leaf, with_record, with_sign, with_variable, written_in, zero, ℕ, ℤ, ◌*◌, ◌++◌, ◌+◌, ◌-◌, ◌<◌, ◌==◌, ◌∙◌, ◌∷◌, ◌≡◌, ◌≤◌, ◌⊎◌, is_sparse, either, cuts_before_put, is_compressed}
 use Rattle.cdf_edits.proofs.Common.{ByStep, Command, Does, Follows, Go, allowances, only_reads, step, with_item}
 use Rattle.cdf_edits.proofs.Edits.RecordsPut.{StoresPut, extent_last, filled_uncut, greater_is_first, greater_is_last, records_put}
 use Rattle.cdf_puts.proofs.PutAlone.{StoresAlone, filled_ruled, none_past, records_put_alone}
@@ -8,7 +8,7 @@ use Rattle.cdf_puts.proofs.RaisedGoes.{greatest_follows, raise_writes}
 use Rattle.cdf_puts.proofs.PutBytes.{behind_all, blocks_then, found_covering, none_is_put, old_size, piece_stays, whole}
 use Rattle.cdf_puts.proofs.IndexWritten.{nodes_still, tail_still}
 use Rattle.cdf_puts.proofs.CoveringRanges.{some_or_none, covering_done, written_from, written_upto}
-use Rattle.cdf_puts.proofs.GoesThen.{goes_then, goes_written, later_size, own_there, stays, variable_there, writes_nothing}
+use Rattle.cdf_puts.proofs.GoesThen.{goes_then, goes_written, later_loose, later_size, own_there, stays, variable_there, writes_nothing}
 use Rattle.cdf_puts.proofs.PutRoom.{none_given, none_without_bytes, longer_by}
 use Rattle.cdf_index.proofs.OwnRecords as of_own
 use Rattle.cdf_leaves.proofs.TopChain.{chain_in}
@@ -113,6 +113,9 @@ module _ {b now last : List ℕ} {kind : Kind} {before : List VariableShape} {ow
   pub size_last : record_bytes last own'.vdr ≡ size
   size_last = later_size so.start.good so.start.among put
 
+  loose_last : is_compressed last own'.vdr ≡ false
+  loose_last = later_loose so.start.good so.start.among put so.start.loose
+
   -- where nothing was cut before the put
   pub index_done : cuts_before_put v r ≡ false → PutsIndex b last v r own own' acts
   index_done uncut = record {
@@ -136,7 +139,7 @@ module _ {b now last : List ℕ} {kind : Kind} {before : List VariableShape} {ow
       (λ l i. (behind_kept so.goes.good so.goes.among last_writes l.place (block_behind own' l.place (place_in leaves l i)) (λ none. none)).same))
 
   pub last_plain : (l : Leaf) → IsOneOf leaves l → PlainLeaf last size l
-  last_plain l i = subst (λ (n : ℕ). PlainLeaf last n l) size_last (whole put.good put.among l i).leaf
+  last_plain l i = subst (λ (n : ℕ). PlainLeaf last n l) size_last (whole put.good put.among loose_last l i).leaf
 
   -- ---- what is stored as a record
 
@@ -152,8 +155,8 @@ module _ {b now last : List ℕ} {kind : Kind} {before : List VariableShape} {ow
   stored_same j few side = elim (some_or_none (find (λ (leaf : Leaf). covers j (range leaf.first leaf.last)) olds)) [
     | inl x ↦
         let o = found_covering j olds x.0 x.1 in
-        let same = piece_stays (all.old x.0 o.0) (whole so.start.good so.start.among x.0 o.0) all.longer j o.1.0 o.1.1 (elim side [ inl lt ↦ inl lt | inr lt ↦ inr (omega arith) ]) in
-        stored_at j x.0 (all.stay x.0 o.0) o.1.0 o.1.1 ∙ ap Some same ∙ sym (stored_in_leaf b own.vdr size j olds (leaves_ascend so.start.good so.start.among) refl x.0 o.0 (whole so.start.good so.start.among x.0 o.0).leaf o.1.0 o.1.1)
+        let same = piece_stays (all.old x.0 o.0) (whole so.start.good so.start.among so.start.loose x.0 o.0) all.longer j o.1.0 o.1.1 (elim side [ inl lt ↦ inl lt | inr lt ↦ inr (omega arith) ]) in
+        stored_at j x.0 (all.stay x.0 o.0) o.1.0 o.1.1 ∙ ap Some same ∙ sym (stored_in_leaf b own.vdr size j olds (leaves_ascend so.start.good so.start.among) refl x.0 o.0 (whole so.start.good so.start.among so.start.loose x.0 o.0).leaf o.1.0 o.1.1)
     | inr none ↦ elim (some_or_none (find (λ (leaf : Leaf). covers j (range leaf.first leaf.last)) leaves)) [
       | inr e ↦ ap (option_map _) e ∙ sym (ap (option_map _) none)
       | inl x ↦
@@ -222,13 +225,13 @@ module _ {b now last : List ℕ} {kind : Kind} {before : List VariableShape} {ow
   allowed m o e = let same = same_as_itself kind in let number = eq-eqb (length before) (length before) refl in rw (same, number, e)
 
   block_keeps : (l : Leaf) → IsOneOf olds l → Keeps b last l.place (anything_if (is_rewritten v r (range l.first l.last)))
-  block_keeps l i = block_stays v r (all.old l i) (behind_in put.good put.among l.place (block_behind own' l.place (place_in leaves l (all.stay l i)))) (old_size (all.old l i) (omega (arith, (whole so.start.good so.start.among l i).leaf.room)))
+  block_keeps l i = block_stays v r (all.old l i) (behind_in put.good put.among l.place (block_behind own' l.place (place_in leaves l (all.stay l i)))) (old_size (all.old l i) (omega (arith, (whole so.start.good so.start.among so.start.loose l i).leaf.room)))
 
   own_keeps : (m : ℕ) → In m (variable_records own) → Keeps b last m (own_may m)
   own_keeps = each_own (λ (m : ℕ). Keeps b last m (own_may m)) own (rw (of_own.descriptor_allowed (found_in b kind before own) so.start.good so.start.among refl put_fields block_may own_may allowed) put.descriptor)
       (λ m i. rw (of_own.node_allowed (found_in b kind before own) so.start.good so.start.among refl put_fields block_may own_may allowed m i) tt)
       (λ l i. rw (of_own.block_allowed (found_in b kind before own) so.start.good so.start.among refl put_fields block_may own_may allowed l i) (block_keeps l i))
-      (λ m i. absurd (subst (In m) (no_cpr so.start.good so.start.among) i))
+      (λ m i. absurd (subst (In m) (no_cpr so.start.good so.start.among so.start.loose) i))
 
   pub keeps : AllKeep b last (put_changes b (shape b) (found_in b kind before own) r) acts (owned b (shape b))
   keeps =
@@ -283,7 +286,7 @@ module _ {b now last : List ℕ} {kind : Kind} {before : List VariableShape} {ow
         } in
         let unwritten : UnwrittenStay b last v r own own' = λ k c side. ap (λ (x : ℕ). stored_bytes last x size leaves k) put.vdr_is ∙ stored_same k (λ e. absurd (true≢false (sym (rw so.start.same_ranges at c) ∙ none_covered k olds e))) side in
         let padded : (l : Leaf) → IsOneOf leaves l → HoldsPads last v own'.vdr r (ranges_before_put v own.index r) l = λ l i none. elim (all.new l i) [
-          | inl o ↦ absurd (true≢false (sym (covers_own olds l o (whole so.start.good so.start.among l o).leaf.ordered) ∙ (rw so.start.same_ranges at none)))
+          | inl o ↦ absurd (true≢false (sym (covers_own olds l o (whole so.start.good so.start.among so.start.loose l o).leaf.ordered) ∙ (rw so.start.same_ranges at none)))
           | inr n ↦ new_pads l i n
         ] in
         search (each_of, in_place, unwritten, padded, blocks, all.stay)

@@ -1,10 +1,11 @@
 -- One image goes on to another: what the descriptor says by then, that an edit of one variable is such a step, and that two steps are one.
-use Rattle.cdf_puts.proofs.Common.{Act, ActsFollow, DataSet, Field, GoesOn, Good, HasShape, In, IndexEdit, IsOther, IsSound, Kept, Kind, List, ListedStay, LooseStay, Mark, Nodes, Only, OnlyTakes, OutsideFields, OwnEdit, Some, StandsAmong, Stays, Stood, Touch, Variable, VariableShape, VdrStays, WritesRecords, [], acts_joined, after_ours, all_variable_records, among_now, ap, arith, cdr_kept, cdr_type, content, content_is, content_replaced, either, false-is_in, fits, flat_map, gdr_keeps, good_is_sound, good_now, image_limit, index_edit, inl, inr, is_a-in, is_in, keeps_stood, kept_away, kind_ours, length, linkable-in, linkable-type, listed_before, long, nat_le, nat_lt, no_acts_follow, none_of_both, only, other_kind, others_are, ours, own_edit, own_rules, put_fields, r_max_rec_field, record_alike, record_bytes, records_are, refl, shape, shapes_of, size_at, slice_get, slice_set, space_fields, splices, stays_alike, stood, subst, sym, tile, tile_lies, true-is_in, type_at, uir_next_uir, uir_prev_uir, uir_type, unused_stands, variable_of, variable_records, variables_in, variables_of, variables_of_are, vdr_size, with_variables, ℕ, ◌&&◌, ◌++◌, ◌+◌, ◌<◌, ◌∙◌, ◌∷◌, ◌≡◌, ◌≤◌}
+use Rattle.cdf_puts.proofs.Common.{Act, ActsFollow, DataSet, Field, GoesOn, Good, HasShape, In, IndexEdit, IsOther, IsSound, Kept, Kind, List, ListedStay, LooseStay, Mark, Nodes, Only, OnlyTakes, OutsideFields, OwnEdit, Some, StandsAmong, Stays, Stood, Touch, Variable, VariableShape, VdrStays, WritesRecords, [], acts_joined, after_ours, all_variable_records, among_now, ap, arith, cdr_kept, cdr_type, content, content_is, content_replaced, either, false, false-is_in, fits, flat_map, gdr_keeps, good_is_sound, good_now, image_limit, index_edit, inl, inr, is_a-in, is_compressed, is_in, keeps_stood, kept_away, kind_ours, length, linkable-in, linkable-type, listed_before, long, nat_le, nat_lt, no_acts_follow, none_of_both, only, other_kind, others_are, ours, own_edit, own_rules, put_fields, r_max_rec_field, record_alike, record_bytes, records_are, refl, shape, shapes_of, size_at, slice_get, slice_set, space_fields, splices, stays_alike, stood, subst, sym, tile, tile_lies, true-is_in, type_at, uir_next_uir, uir_prev_uir, uir_type, unused_stands, variable_of, variable_records, variables_in, variables_of, variables_of_are, vdr_size, with_variables, ℕ, ◌&&◌, ◌++◌, ◌+◌, ◌<◌, ◌∙◌, ◌∷◌, ◌≡◌, ◌≤◌}
 use Rattle.std.proofs.lemmas.List.{set-set}
 use Rattle.cdf_edits.proofs.Edits.Common.{all_attributes_in, attributes_kept, got-map, got-middle, stays_bytes, stays_then, type_stays}
 use Rattle.cdf_edits.proofs.Edits.IndexEdited as of_index
 use Rattle.cdf_edits.proofs.Edits.OwnEdited.{same_shape}
 use Rattle.cdf_edits.proofs.Edits.RecordGrown.{kept_then}
+use Rattle.cdf_edits.proofs.Frame.VdrStays.{packed_stays}
 
 abbrev pub links : List Field
 links = uir_next_uir ∷ uir_prev_uir ∷ []
@@ -32,6 +33,10 @@ module _ {b now : List ℕ} {kind : Kind} {before : List VariableShape} {own : V
   -- the same, of the variable with its later index
   pub later_size : {own' : VariableShape} {acts : List Act} → GoesOn b now kind before own own' after acts → record_bytes now own'.vdr ≡ record_bytes b own.vdr
   later_size goes = ap (record_bytes now) goes.vdr_is ∙ record_alike goes.file (stays_alike goes.file (stays goes.descriptor))
+
+  -- nor is it packed then where it was not
+  pub later_loose : {own' : VariableShape} {acts : List Act} → GoesOn b now kind before own own' after acts → is_compressed b own.vdr ≡ false → is_compressed now own'.vdr ≡ false
+  later_loose goes loose = ap (is_compressed now) goes.vdr_is ∙ packed_stays goes.file (stays goes.descriptor) ∙ loose
 
 -- ---- an edit of one variable goes on
 

@@ -1,6 +1,6 @@
 -- A record is written in a block: the record holds its bytes, no other byte changes, and the index stays; of the leaves that were put the one of the record is the last by then.
-use Rattle.cdf_puts.proofs.Common.{Act, BlocksSoFar, Changed, Each-in, Good, HasShape, In, IndexSoFar, IsOneOf, Kind, Leaf, LeavesGoOn, List, NodeFits, NodesSoFar, OldBlock, Outside-append, PutsBefore, RecordIs, RecordsWritten, Same, SoFar, StandsAmong, Touch, VariableShape, WritesRecords, [], ap, apart, append-nil, arith, behind_in, block_behind, block_kept, byte, cases_eq, cast_signed, changed_part, drop, either, extent, file, filter, find_covering, find_first, first_written, fits, gdr_in, gdr_long, gdr_r_max_rec, gdr_type, gdr_typed, inl, inr, integer4, is_max_rec, leaves_apart, leaves_ascend, leaves_of, length, length-put, long, max_rec_at, max_rec_touches, new_ranges, no_block, node_kept, nodes_of, number, one_place, own_rules, part, place_in, places_of, r_max_rec, ranges_of, record_bytes, record_number_limit, record_of, record_place, refl, same_Some, shape, size_at, size_kept, sound, subst, suc, sym, take, tile, touch, type_at, variable_of, vdr_max_rec, vdr_vxr_tail, vvr_type, w32, was_put, word_kept, ℕ, ◌*◌, ◌+◌, ◌-◌, ◌<◌, ◌∙◌, ◌∷◌, ◌≡◌, ◌≢◌, ◌≤◌, ◌⊎◌, ◌++◌, rules, Beside, Outside, is_taken_at, false, NewBlock, changed_put}
-use Rattle.cdf_puts.proofs.PutBytes.{Whole, blocks_then, found_covering, put_there, size_now, whole}
+use Rattle.cdf_puts.proofs.Common.{Act, BlocksSoFar, Changed, Each-in, Good, HasShape, In, IndexSoFar, IsOneOf, Kind, Leaf, LeavesGoOn, List, NodeFits, NodesSoFar, OldBlock, Outside-append, PutsBefore, RecordIs, RecordsWritten, Same, SoFar, StandsAmong, Touch, VariableShape, WritesRecords, [], ap, apart, append-nil, arith, behind_in, block_behind, block_kept, byte, cases_eq, cast_signed, changed_part, drop, either, extent, file, filter, find_covering, find_first, first_written, fits, gdr_in, gdr_long, gdr_r_max_rec, gdr_type, gdr_typed, inl, inr, integer4, is_max_rec, leaves_apart, leaves_ascend, leaves_of, length, length-put, long, max_rec_at, max_rec_touches, new_ranges, no_block, node_kept, nodes_of, number, one_place, own_rules, part, place_in, places_of, r_max_rec, ranges_of, record_bytes, record_number_limit, record_of, record_place, refl, same_Some, shape, size_at, size_kept, sound, subst, suc, sym, take, tile, touch, type_at, variable_of, vdr_max_rec, vdr_vxr_tail, vvr_type, w32, was_put, word_kept, ℕ, ◌*◌, ◌+◌, ◌-◌, ◌<◌, ◌∙◌, ◌∷◌, ◌≡◌, ◌≢◌, ◌≤◌, ◌⊎◌, ◌++◌, rules, Beside, Outside, is_taken_at, false, NewBlock, changed_put, is_compressed}
+use Rattle.cdf_puts.proofs.PutBytes.{Whole, blocks_then, found_covering, loose_now, put_there, size_now, whole}
 use Rattle.cdf_puts.proofs.SoFarStarts.{put_next, puts_old}
 use Rattle.cdf_puts.proofs.PutNodes.{nodes_same, unless_true}
 
@@ -8,7 +8,7 @@ use Rattle.cdf_puts.proofs.PutNodes.{nodes_same, unless_true}
 found_leaf : {b now : List ℕ} {own : VariableShape} {l : Leaf} {k : ℕ} {raw : List ℕ} → RecordsWritten b now own l k raw → IsOneOf (leaves_of own.index) l × ((l.first ≤ k) × (k ≤ l.last))
 found_leaf {own = own} {l = l} {k = k} w = found_covering k (leaves_of own.index) l w.found
 
-module _ {b now : List ℕ} {kind : Kind} {before : List VariableShape} {own : VariableShape} {after : List VariableShape} {l : Leaf} {k : ℕ} {bytes : List ℕ} (good : Good b) (at : StandsAmong b kind before own after) (w : RecordsWritten b now own l k bytes) where
+module _ {b now : List ℕ} {kind : Kind} {before : List VariableShape} {own : VariableShape} {after : List VariableShape} {l : Leaf} {k : ℕ} {bytes : List ℕ} (good : Good b) (at : StandsAmong b kind before own after) (w : RecordsWritten b now own l k bytes) (loose : is_compressed b own.vdr ≡ false) where
   abbrev leaves : List Leaf
   leaves = leaves_of own.index
 
@@ -22,7 +22,7 @@ module _ {b now : List ℕ} {kind : Kind} {before : List VariableShape} {own : V
   h = (sound good at).has_shape
 
   here : Whole b size l
-  here = whole good at l (found_leaf w).0
+  here = whole good at loose l (found_leaf w).0
 
   block : In l.place (places_of leaves)
   block = place_in leaves l (found_leaf w).0
@@ -103,7 +103,7 @@ module _ {b now now' : List ℕ} {kind : Kind} {before : List VariableShape} {ow
   now_leaves = leaves_of own'.index
 
   pub blocks_written : BlocksSoFar b now' own own' raw pad r first (k + 1) acts []
-  blocks_written = blocks_then so (omega arith) (omega arith) (append-nil acts) (subst (λ (n : ℕ). LeavesGoOn now now' now_leaves now_leaves raw pad r k (extent (max_rec_at b own.vdr)) (k + 1) n [] []) (size_now so) (leaves_written so.goes.good so.goes.among w refl (as_long ∙ sym (size_now so))))
+  blocks_written = blocks_then so (omega arith) (omega arith) (append-nil acts) (subst (λ (n : ℕ). LeavesGoOn now now' now_leaves now_leaves raw pad r k (extent (max_rec_at b own.vdr)) (k + 1) n [] []) (size_now so) (leaves_written so.goes.good so.goes.among w (loose_now so) refl (as_long ∙ sym (size_now so))))
 
   -- ---- the index
 
@@ -115,5 +115,5 @@ module _ {b now now' : List ℕ} {kind : Kind} {before : List VariableShape} {ow
 
   pub index_written : IndexSoFar b now' own own' first (k + 1) acts
   index_written =
-      let writing = writes so.goes.good so.goes.among w in
+      let writing = writes so.goes.good so.goes.among w (loose_now so) in
       search (rules, puts_written, subst (λ (v : ℕ). number now' v vdr_vxr_tail ≡ number now v vdr_vxr_tail) so.goes.vdr_is (tail_still so writing) ∙ so.index.tail, so.index, nodes_still so writing)

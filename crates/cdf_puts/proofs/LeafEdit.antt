@@ -1,5 +1,5 @@
 -- A leaf that is added, as one edit: its block is taken and written, then a node where one is needed, and then the entries are. It leads from one good image to another.
-use Rattle.cdf_puts.proofs.Common.{same_node, acts_still_by, is_block, nodes_rows, used_rows, leaf_rows, index_rows, end_of, NodeTouch, Away, rules, Act, Avoids-append, Away-append, BlocksGoOn, Counts, Each, Each-map, Edit, Entries, Exchanged, FileSame, GoesOn, Good, Hold, Hold-split, In, In-append, In-append_left, In-append_right, IndexTests, IndexTouch, IsBlockBody, IsChain, IsOneOf, IsSound, IsVacant, Kept, Kind, Leaf, LeafAdded, List, Mark, Marked, Misses, NewIndex, NodeStands, NodeTaken, Nodes, Only, R, Same, Same-part, Shape, StandsAmong, Touch, VariableShape, Within-append, Z, [], all_unmarked-away, ap, apart, append-nil, arith, avoided, away-avoids, away-within, before_limit, behind_in, block, block_behind, chain_stays, changed_edit, count_is, drop, drop-drop, drop-take, each, each_of, edit_then, eof, false, field, file_same, firsts_of, flat_map, gdr_eof, gdr_field, gdr_in, gdr_type, gdr_typed, gdr_uir_head, good_is_sound, has, head_size, head_type, if◌then◌else◌, image_limit, in_nodes_with_leaf, index_marks, index_rules, order_with_leaf, index_unmarked, inl, inr, is_in-false, is_taken_at, keeps_away, keeps_fields, keeps_file, keeps_within, kept, kept_away, leaf_acts, leaves_of, length, linkable-in, linkable-type, long, lower, lower_nodes, max, max_rec_kept, negsuc, new_room, no_entry, no_node, node, node_acts, node_behind, node_room, node_stays, nodes_of, nodes_with_leaf, number, number_before, of_le, own_rules, piece_kept, place_in, placed_grows, pos, r_max_rec, r_max_rec_field, record_alike, record_bytes, record_number_limit, refl, room_at, same-then, shape, size_at, size_kept, some_bytes, space_fields, subst, suc, sym, take, take-take, the_one, tile, tile_lies, times, times-append, true, type_at, type_in, type_kept, type_of_body, typed, uir_type, unmarked-away, variable_types, variables_chain, vdr_alike, vdr_max_rec, vdr_of_variable, vvr_type, vxr_bytes, vxr_type, with_leaf, with_sign, word, zero, ℕ, ℤ, ◌*◌, ◌++◌, ◌+◌, ◌-◌, ◌<◌, ◌==◌, ◌∙◌, ◌∷◌, ◌≡◌, ◌≢◌, ◌≤◌, taken_places, is_in-true, get_or-drop, get_or-take, places_of, leaves_more, nat_tests, Covered, ◌⊎◌, is_record_type, fixed_size, byte, node_fits, own_node, own_order}
+use Rattle.cdf_puts.proofs.Common.{same_node, acts_still_by, is_block, nodes_rows, used_rows, leaf_rows, index_rows, end_of, NodeTouch, Away, rules, Act, Avoids-append, Away-append, BlocksGoOn, Counts, Each, Each-map, Edit, Entries, Exchanged, FileSame, GoesOn, Good, Hold, Hold-split, In, In-append, In-append_left, In-append_right, IndexTests, IndexTouch, IsBlockBody, IsChain, IsOneOf, IsSound, IsVacant, Kept, Kind, Leaf, LeafAdded, List, Mark, Marked, Misses, NewIndex, NodeStands, NodeTaken, Nodes, Only, R, Same, Same-part, Shape, StandsAmong, Touch, VariableShape, Within-append, Z, [], all_unmarked-away, ap, apart, append-nil, arith, avoided, away-avoids, away-within, before_limit, behind_in, block, block_behind, chain_stays, changed_edit, count_is, drop, drop-drop, drop-take, each, each_of, edit_then, eof, false, field, file_same, firsts_of, flat_map, gdr_eof, gdr_field, gdr_in, gdr_type, gdr_typed, gdr_uir_head, good_is_sound, has, head_size, head_type, if◌then◌else◌, image_limit, in_nodes_with_leaf, index_marks, index_rules, order_with_leaf, index_unmarked, inl, inr, is_in-false, is_taken_at, keeps_away, keeps_fields, keeps_file, keeps_within, kept, kept_away, leaf_acts, leaves_of, length, linkable-in, linkable-type, long, lower, lower_nodes, max, max_rec_kept, negsuc, new_room, no_entry, no_node, node, node_acts, node_behind, node_room, node_stays, nodes_of, nodes_with_leaf, number, number_before, of_le, own_rules, piece_kept, place_in, placed_grows, pos, r_max_rec, r_max_rec_field, record_alike, record_bytes, record_number_limit, refl, room_at, same-then, shape, size_at, size_kept, some_bytes, space_fields, subst, suc, sym, take, take-take, the_one, tile, tile_lies, times, times-append, true, type_at, type_in, type_kept, type_of_body, typed, uir_type, unmarked-away, variable_types, variables_chain, vdr_alike, vdr_max_rec, vdr_of_variable, vvr_type, vxr_bytes, vxr_type, with_leaf, with_sign, word, zero, ℕ, ℤ, ◌*◌, ◌++◌, ◌+◌, ◌-◌, ◌<◌, ◌==◌, ◌∙◌, ◌∷◌, ◌≡◌, ◌≢◌, ◌≤◌, taken_places, is_in-true, get_or-drop, get_or-take, places_of, leaves_more, nat_tests, Covered, ◌⊎◌, is_record_type, fixed_size, byte, node_fits, own_node, own_order, is_compressed}
 use Rattle.cdf_edits.proofs.Edits.MadeRecord.{place_in as placed_in, filled_size}
 use Rattle.cdf_edits.proofs.Edits.TakenAll.{TakenAll, none_taken, taken_then, taking_all, listed_free, unlisted_away}
 use Rattle.cdf_puts.proofs.LeafCounts.{room_stays, one_of_leaves, places_new}
@@ -268,7 +268,7 @@ module _ {b now : List ℕ} {kind : Kind} {before : List VariableShape} {own : V
         λ i l lt. grind (arith, l, lt, get_or-drop (new.place + 8) now (i - 8) 0, get_or-take (length body) (drop (new.place + 8) now) (i - 8) 0 (omega (arith, block_size)), body_now, says.spare (i - 8) (omega arith) (omega (arith, block_size))) in
         search (rules, old, block_size ∙ body_long body records says, records_are, spare)
 
-    module _ (vacant : IsVacant own new.first new.last) (as_long : length records ≡ (new.last + 1 - new.first) * record_bytes b own.vdr) (short : length now ≤ image_limit) where
+    module _ (vacant : IsVacant own new.first new.last) (as_long : length records ≡ (new.last + 1 - new.first) * record_bytes b own.vdr) (short : length now ≤ image_limit) (loose : is_compressed b own.vdr ≡ false) where
       -- ---- the blocks
 
       block_rows : (l : Leaf) → In l.place records' → type_at now l.place ≡ vvr_type → l.first ≤ l.last → l.last ≤ record_number_limit → 12 + (l.last + 1 - l.first) * record_bytes b own.vdr ≤ size_at now l.place → (is_block now records' l.place ≡ true) × Hold (leaf_rows now records' own.vdr l)
@@ -281,7 +281,7 @@ module _ {b now : List ℕ} {kind : Kind} {before : List VariableShape} {own : V
             let long : 12 + (new.last + 1 - new.first) * record_bytes b own.vdr ≤ size_at now new.place = rw (block_size, body_long body records says, as_long) (omega arith) in
             subst (λ (x : Leaf). (is_block now records' x.place ≡ true) × Hold (leaf_rows now records' own.vdr x)) (sym q) (block_rows new (taken_used new.place (inl refl)).0 block_typed vacant.ordered (before_limit new.first new.last (firsts_of own.index) vacant.before_next) long)
         | inr j ↦
-            let x = (whole good among l j).leaf in
+            let x = (whole good among loose l j).leaf in
             let at = place_in (leaves_of own.index) l j in
             let k = block_kept good among new_index l.place at in
             block_rows l (edit.sub l.place (behind_in good among l.place (block_behind own l.place at))) (type_kept b now l.place k.same k.long ∙ x.typed) x.ordered x.small (rw (size_kept b now l.place k.same (omega (arith, k.long))) x.room)

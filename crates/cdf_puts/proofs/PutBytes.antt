@@ -1,10 +1,9 @@
 -- The bytes of the blocks while records are put: two steps are one, and in the last one none is put.
-use Rattle.cdf_puts.proofs.Common.{Act, Ascending, Beside, Changed, Good, IsOneOf, Kind, Leaf, LeavesGoOn, List, OldBlock, PlainLeaf, RecordIs, Same, SoFar, Some, StandsAmong, Touch, VariableShape, [], ap, arith, behind_in, block_behind, cases_lt, covers, covers_within, drop, extent, false, find, find_covering, first_written, inl, inr, is_taken_at, leaves_of, length, long, max_rec_at, min, nat_tests, piece_kept, place_in, plain_leaf, put, range, record_bytes, record_of, record_place, refl, shape, size_at, sound, subst, suc, take, take_at, tile_lies, times_le, upto, variable_of, word_kept, ℕ, ◌*◌, ◌++◌, ◌+◌, ◌-◌, ◌<◌, ◌∙◌, ◌≡◌, ◌≤◌, ◌⊎◌}
+use Rattle.cdf_puts.proofs.Common.{Act, Ascending, Beside, Changed, Good, IsOneOf, Kind, Leaf, LeavesGoOn, List, OldBlock, PlainLeaf, RecordIs, Same, SoFar, Some, StandsAmong, Touch, VariableShape, [], ap, arith, behind_in, block_behind, cases_lt, covers, covers_within, drop, extent, false, find, find_covering, first_written, inl, inr, is_compressed, is_taken_at, leaves_of, length, long, max_rec_at, min, nat_tests, piece_kept, place_in, plain_leaf, put, range, record_bytes, record_of, record_place, refl, shape, size_at, sound, subst, suc, take, take_at, tile_lies, times_le, upto, variable_of, word_kept, ℕ, ◌*◌, ◌++◌, ◌+◌, ◌-◌, ◌<◌, ◌∙◌, ◌≡◌, ◌≤◌, ◌⊎◌}
 use Rattle.cdf_edits.proofs.Edits.LeafPieces.{found_in}
 use Rattle.cdf_fields.proofs.Writes.{drop-put_there}
-use Rattle.cdf_puts.proofs.GoesThen.{later_size}
+use Rattle.cdf_puts.proofs.GoesThen.{later_loose, later_size}
 use Rattle.cdf_puts.proofs.PutNodes.{taken_both}
-use Rattle.cdf_edits.proofs.Edits.StandsAmong.{loose}
 
 -- a leaf that is not the one of a record ends before it, or begins behind it
 pub beside_one : (k low upto : ℕ) (leaves : List Leaf) → Ascending low upto leaves → (l : Leaf) → IsOneOf leaves l → (find (λ (leaf : Leaf). covers k (range leaf.first leaf.last)) leaves ≡ Some l → ⊥) → (l.last < k) ⊎ (k < l.first)
@@ -34,8 +33,8 @@ pub record Whole (b : List ℕ) (size : ℕ) (l : Leaf) : Type 0 where
   pub leaf : PlainLeaf b size l
   pub inside : l.place + size_at b l.place ≤ length b
 
-pub whole : {b : List ℕ} {kind : Kind} {before : List VariableShape} {own : VariableShape} {after : List VariableShape} → Good b → StandsAmong b kind before own after → (l : Leaf) → IsOneOf (leaves_of own.index) l → Whole b (record_bytes b own.vdr) l
-whole {b = b} {own = own} good at l i = record { leaf = plain_leaf good at (loose good at) l i; inside = (tile_lies b 8 (length b) (shape b).records l.place (sound good at).has_shape.tiled (behind_in good at l.place (block_behind own l.place (place_in (leaves_of own.index) l i)))).high }
+pub whole : {b : List ℕ} {kind : Kind} {before : List VariableShape} {own : VariableShape} {after : List VariableShape} → Good b → StandsAmong b kind before own after → is_compressed b own.vdr ≡ false → (l : Leaf) → IsOneOf (leaves_of own.index) l → Whole b (record_bytes b own.vdr) l
+whole {b = b} {own = own} good at loose l i = record { leaf = plain_leaf good at loose l i; inside = (tile_lies b 8 (length b) (shape b).records l.place (sound good at).has_shape.tiled (behind_in good at l.place (block_behind own l.place (place_in (leaves_of own.index) l i)))).high }
 
 -- it keeps its size
 pub old_size : {b now raw pad : List ℕ} {r first k size : ℕ} {l : Leaf} → OldBlock b now raw pad r first k size l → 12 ≤ size_at b l.place → size_at now l.place ≡ size_at b l.place
@@ -85,10 +84,13 @@ module _ {b now : List ℕ} {kind : Kind} {before : List VariableShape} {own own
   pub size_now : record_bytes now own'.vdr ≡ record_bytes b own.vdr
   size_now = later_size so.start.good so.start.among so.goes
 
+  pub loose_now : is_compressed now own'.vdr ≡ false
+  loose_now = later_loose so.start.good so.start.among so.goes so.start.loose
+
   pub now_whole : (l : Leaf) → IsOneOf (leaves_of own'.index) l → Whole now (record_bytes b own.vdr) l
-  now_whole l i = subst (λ (n : ℕ). Whole now n l) size_now (whole so.goes.good so.goes.among l i)
+  now_whole l i = subst (λ (n : ℕ). Whole now n l) size_now (whole so.goes.good so.goes.among loose_now l i)
 
   pub blocks_then : {now' : List ℕ} {leaves' : List Leaf} {k' : ℕ} {step acts' : List Act} {fields : List Touch} → k ≤ k' → k' ≤ r + 1 → acts ++ step ≡ acts' → LeavesGoOn now now' (leaves_of own'.index) leaves' raw pad r k (extent (max_rec_at b own.vdr)) k' (record_bytes b own.vdr) step fields
       → LeavesGoOn b now' (leaves_of own.index) leaves' raw pad r (first_written (variable_of b own) r) (extent (max_rec_at b own.vdr)) k' (record_bytes b own.vdr) acts' fields
   blocks_then {now' = now'} {leaves' = leaves'} {k' = k'} {fields = fields} more end same y =
-      subst (λ (xs : List Act). LeavesGoOn b now' (leaves_of own.index) leaves' raw pad r (first_written (variable_of b own) r) (extent (max_rec_at b own.vdr)) k' (record_bytes b own.vdr) xs fields) same (leaves_then (whole so.start.good so.start.among) now_whole so.covers.from more end so.blocks y)
+      subst (λ (xs : List Act). LeavesGoOn b now' (leaves_of own.index) leaves' raw pad r (first_written (variable_of b own) r) (extent (max_rec_at b own.vdr)) k' (record_bytes b own.vdr) xs fields) same (leaves_then (whole so.start.good so.start.among so.start.loose) now_whole so.covers.from more end so.blocks y)

@@ -1,5 +1,5 @@
--- What the rules say of a variable of a good image in which records are put: so far none has a CPR (rule 9.99).
-use Rattle.cdf_puts.proofs.Common.{Good, Kind, List, StandsAmong, VariableShape, [], cuts_before_put, false, refl, ℕ, ◌≡◌, Nodes, Variable, firsts_before_put, firsts_of, next_first, ranges_before_put, ranges_of}
+-- What the rules say of a variable of a good image in which records are put: one that is not packed has no CPR.
+use Rattle.cdf_puts.proofs.Common.{Good, Kind, List, StandsAmong, VariableShape, [], cuts_before_put, false, is_compressed, refl, ℕ, ◌≡◌, Nodes, Variable, firsts_before_put, firsts_of, next_first, ranges_before_put, ranges_of}
 use Rattle.cdf_edits.proofs.Edits.PlainLeaves.{uncompressed}
 
 -- ---- where nothing has to be cut, a put begins with the index as it is
@@ -13,5 +13,5 @@ uncut_nexts v index r m uncut = rw uncut refl
 -- ---- what the rules say
 
 module _ {b : List ℕ} {kind : Kind} {before : List VariableShape} {own : VariableShape} {after : List VariableShape} (good : Good b) (at : StandsAmong b kind before own after) where
-  pub no_cpr : own.cpr ≡ []
-  no_cpr = (uncompressed good at).no_cpr
+  pub no_cpr : is_compressed b own.vdr ≡ false → own.cpr ≡ []
+  no_cpr loose = (uncompressed good at loose).no_cpr

@@ -9,7 +9,7 @@ use Rattle.cdf_puts.proofs.IndexWritten.{blocks_written, index_written, max_rec_
 use Rattle.cdf_puts.proofs.PutRoom.{taken_sum, takes_both, leaf_bytes, longer_by}
 use Rattle.cdf_puts.proofs.SoFarStarts.{starts_upto, index_start, blocks_start}
 use Rattle.cdf_leaves.proofs.Own.{among_all, own_order, searchable}
-use Rattle.cdf_puts.proofs.PutBytes.{found_covering, size_now, whole}
+use Rattle.cdf_puts.proofs.PutBytes.{found_covering, loose_now, size_now, whole}
 use Rattle.cdf_puts.proofs.KnownStarts.{top_kept, tops_in, vdr_lies}
 use Rattle.cdf_index.proofs.Common.{HoldsRecords, seen}
 use Rattle.cdf_index.specs.declared.nodes.Leaf.{Leaf as SeenLeaf}
@@ -54,8 +54,8 @@ module _ {b : List ℕ} {kind : Kind} {before : List VariableShape} {own : Varia
     so_far_written {now' = now'} {l = l} w as_long =
         let good = so.goes.good in
         let at = so.goes.among in
-        let goes = subst (GoesOn b now' kind before own own' after) (append-nil acts) (goes_then so.start.good so.start.among so.goes (goes_written good at (writes good at w) so.short) so.takes tt) in
-        search (arith, so, goes, ← so.goes.vdr_is, max_rec_kept good at w, r_max_rec_stays good at w, covering_has so.covers so.start.small more l w.found, index_written so more w as_long, blocks_written so more w as_long)
+        let goes = subst (GoesOn b now' kind before own own' after) (append-nil acts) (goes_then so.start.good so.start.among so.goes (goes_written good at (writes good at w (loose_now so)) so.short) so.takes tt) in
+        search (arith, so, goes, ← so.goes.vdr_is, max_rec_kept good at w (loose_now so), r_max_rec_stays good at w (loose_now so), covering_has so.covers so.start.small more l w.found, index_written so more w as_long, blocks_written so more w as_long)
 
     pub so_far_added : {now' : List ℕ} {last place at next : ℕ} {body records : List ℕ} → last ≡ (new_range (variable_of b own) (firsts_of own'.index) k).last → IsVacant own' k last → IsBlockBody body records → BlockRecords raw pad r k last (record_bytes b own.vdr) records
         → LeafAdded now now' own' (leaf k last place false) body at → length now' ≤ image_limit → min (last + 1) (r + 1) ≡ next
@@ -65,7 +65,7 @@ module _ {b : List ℕ} {kind : Kind} {before : List VariableShape} {own : Varia
         let among = so.goes.among in
         let new = leaf k last place false in
         let step = leaf_acts place (8 + length body) (new_room k own'.index) at in
-        let goes : GoesOn now now' kind before own' (record own' { index = with_leaf new at own'.index }) after step = leaf_goes_on good among w holds vacant (says.as_long ∙ ap (λ (n : ℕ). (last + 1 - k) * n) (sym (later_size so.start.good so.start.among so.goes))) short in
+        let goes : GoesOn now now' kind before own' (record own' { index = with_leaf new at own'.index }) after step = leaf_goes_on good among w holds vacant (says.as_long ∙ ap (λ (n : ℕ). (last + 1 - k) * n) (sym (later_size so.start.good so.start.among so.goes))) short (loose_now so) in
         let bytes : taken_bytes (acts ++ step) ≡ taken_bytes acts + block_bytes (variable_of b own) k last + node_bytes k own'.index = omega (arith, taken_sum acts step, leaf_bytes place (8 + length body) (new_room k own'.index) at, body_long body records holds, says.as_long) in
         let wide = new_room_widest now (shape now).records 8 k own'.index (has good among).indexed.has_nodes (fits good among).1 in
         let covers : Covering (variable_of b own) own.index (with_leaf new at own'.index) r (min (last + 1) (r + 1)) (taken_bytes (acts ++ step)) = rw (bytes, is) (covering_leaf so.covers so.start.small more so.start.same_ranges so.start.loose vacant.uncovered place at wide) in
@@ -122,7 +122,7 @@ module _ {b now : List ℕ} {kind : Kind} {before : List VariableShape} {own : V
       pub held : HoldsRecords now l (record_bytes now own'.vdr) × (l.first ≤ k) × (k ≤ l.last)
       held =
           let one = found_covering k (leaves_of own'.index) (seen l) here in
-          let x = whole so.goes.good so.goes.among (seen l) one.0 in
+          let x = whole so.goes.good so.goes.among (loose_now so) (seen l) one.0 in
           search (arith, x.leaf, x.inside, one)
 
       module _ (n : ℕ) (n_is : n ≡ length new.raw.items) where

@@ -1,5 +1,5 @@
 -- A chain that is read from its head on, record by record.
-use Rattle.cdf_space.proofs.Common.{Attrs, Chain, GrEntries, HasChain, HolderStands, In, In-append_left, IsSound, Leads, List, None, Option, RVars, Some, ZEntries, ZVars, [], ap, append-nil, append_assoc, arith, count_of, end_of, fixed_size, head_of, head_width, holder_of, holder_stands, holder_type, last_or, length, link_place, long_of, members_of, refl, shape, size_at, subst, sym, tiles, word, ℕ, ◌++◌, ◌+◌, ◌<◌, ◌∙◌, ◌∷◌, ◌≡◌, ◌≤◌}
+use Rattle.cdf_space.proofs.Common.{Attrs, Chain, GrEntries, HasChain, HolderStands, In, In-append_left, IsSound, Leads, List, None, Option, RVars, Some, ZEntries, ZVars, [], ap, append-nil, append_assoc, arith, count_of, end_of, fixed_size, head_of, head_width, holder_of, holder_stands, holder_type, last_or, length, link_place, long_of, members_of, refl, shape, size_at, subst, sym, word, ℕ, ◌++◌, ◌+◌, ◌<◌, ◌∙◌, ◌∷◌, ◌≡◌, ◌≤◌}
 use Rattle.cdf_space.proofs.Linking.{link_inside}
 
 -- so many records were read, and the link at a place leads to the others

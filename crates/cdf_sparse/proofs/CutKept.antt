@@ -145,7 +145,7 @@ module _ {b now : List ℕ} {kind : Kind} {before : List VariableShape} {own : V
   own_keeps = each_own (λ (m : ℕ). Keeps b now m (own_may meets m)) own (rw (of_vdr meets) cut_vdr)
       (λ m i. rw (of_own.node_allowed (found_in b kind before own) good at refl heads (block_may meets) (own_may meets) (allowed meets) m i) tt)
       (λ l i. rw (of_own.block_allowed (found_in b kind before own) good at refl heads (block_may meets) (own_may meets) (allowed meets) l i) (block_keeps l i))
-      (λ m i. absurd (subst (In m) (no_cpr good at) i))
+      (λ m i. absurd (subst (In m) (no_cpr good at x.loose) i))
 
   goes : Goes (found_in b kind before own) (untouched b own) (stage now own' acts 0) meets
   goes =

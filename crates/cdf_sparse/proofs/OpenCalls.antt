@@ -33,6 +33,7 @@ use Rattle.cdf_sparse.proofs.OpenFirsts.{wide_left}
 use Rattle.cdf_sparse.proofs.OpenNone.{opened_none}
 use Rattle.cdf_sparse.proofs.OpenOne.{opened_one}
 use Rattle.cdf_sparse.specs.Opening.{CutOpen, freed_opening, index_opened, later_records, opening_room}
+use Rattle.cdf_format.specs.Shape.{is_compressed}
 
 node_long : (b now : List ℕ) (room at wide : ℕ) → NodeTaken b now room at → room ≤ wide → length now ≤ length b + vxr_bytes wide
 node_long b now room at wide n le = grind (arith, n, le)
@@ -51,7 +52,10 @@ found_there vdr last later same head_is found = subst (λ (ls : List Leaf). IsLa
 pub found_some : (vdr last : ℕ) (later : Option FoundLeaf) (leaf : FoundLeaf) → later ≡ Some leaf → {b x : List ℕ} {head : ℕ} → x ≡ b → head ≡ number b vdr vdr_vxr_head → IsLater last (leaves_of (index_at x head)) later → IsLater last (leaves_of (index_at b (number b vdr vdr_vxr_head))) (Some leaf)
 found_some vdr last later leaf e {b = b} same head_is found = subst (IsLater last (leaves_of (index_at b (number b vdr vdr_vxr_head)))) e (found_there vdr last later same head_is found)
 
-module _ {b : List ℕ} (good : Good b) {kind : Kind} {before : List VariableShape} {own : VariableShape} {after : List VariableShape} {vdr : ℕ} (among : StandsAmong b kind before own after) (is : own.vdr ≡ vdr) where
+module _ {b : List ℕ} (good : Good b) {kind : Kind} {before : List VariableShape} {own : VariableShape} {after : List VariableShape} {vdr : ℕ} (among : StandsAmong b kind before own after) (is : own.vdr ≡ vdr) (unpacked : is_compressed b vdr ≡ false) where
+  loose : is_compressed b own.vdr ≡ false
+  loose = ap (is_compressed b) is ∙ unpacked
+
   index_there : index_at b (number b vdr vdr_vxr_head) ≡ own.index
   index_there = (calls.index_is b good among is).1
 
@@ -63,7 +67,7 @@ module _ {b : List ℕ} (good : Good b) {kind : Kind} {before : List VariableSha
     of_own o e = subst (IsLater last (leaves_of own.index)) e (rw index_there at found)
 
     pub block_there : {rec_bytes : ℕ} → rec_bytes ≡ record_bytes b vdr → (leaf : FoundLeaf) → later ≡ Some leaf → leaf.at + (12 + (leaf.last + 1 - leaf.first) * rec_bytes) ≤ length b
-    block_there size leaf e = rw (size_own size) (found_room good among leaf (of_own (Some leaf) e).0)
+    block_there size leaf e = rw (size_own size) (found_room good among loose leaf (of_own (Some leaf) e).0)
 
     -- the block and the node of a leaf that is divided have room
     module _ {rec_bytes first : ℕ} (size : rec_bytes ≡ record_bytes b vdr) (order : first ≤ last) (leaf : FoundLeaf) (e : later ≡ Some leaf) (begins : leaf.first < first) where
@@ -91,7 +95,7 @@ module _ {b : List ℕ} (good : Good b) {kind : Kind} {before : List VariableSha
 
       module _ {mid body : List ℕ} {limit : ℕ} (room : length b + opening_room first last rec_bytes (index_at b (number b vdr vdr_vxr_head)) ≤ limit) (upto : limit ≤ image_limit) (short : length b ≤ image_limit) (c : IsCut b mid kind own (opening first last)) (says : IsBlockBody body (later_records b rec_bytes last (seen leaf))) where
         goes : GoesOn b mid kind before own (with_index own (index_opened own first last)) after (gave b (freed_opening own first last))
-        goes = goes_cut good among order short c
+        goes = goes_cut good among order short c loose
 
         pub part_good : Good mid
         part_good = goes.good
@@ -105,7 +109,7 @@ module _ {b : List ℕ} (good : Good b) {kind : Kind} {before : List VariableSha
         enough : length mid + (8 + length body) + vxr_bytes (widest (index_opened own first last)) ≤ limit
         enough =
             let whole : length b + opening_room first last rec_bytes own.index ≤ limit = rw index_there at room in
-            omega (arith, whole, room_is, long_cut good among order short c, body_long body (later_records b rec_bytes last (seen leaf)) says, records_long, wide_left first last own.index)
+            omega (arith, whole, room_is, long_cut good among order short c loose, body_long body (later_records b rec_bytes last (seen leaf)) says, records_long, wide_left first last own.index)
 
         pub part_room : length mid + (8 + length body) + vxr_bytes (widest (index_at mid (number mid vdr vdr_vxr_head))) ≤ limit
         part_room = rw index_mid enough
@@ -119,13 +123,13 @@ module _ {b : List ℕ} (good : Good b) {kind : Kind} {before : List VariableSha
             record {
               own' = with_index own (with_leaf (record { first = last + 1; last = leaf.last; place = a.place; packed = false }) a.at (index_opened own first last));
               takes = leaf_acts a.place (8 + length body) (new_room (last + 1) (index_opened own first last)) a.at;
-              opened = opened_one good among order short c one (record { begins = begins; ends = ends }) says_own a.added short_now;
+              opened = opened_one good among order short c loose one (record { begins = begins; ends = ends }) says_own a.added short_now;
             }
 
     -- the records of the block that was found, or nothing, where no leaf is divided
     module _ {first rec_bytes : ℕ} {mid : List ℕ} (size : rec_bytes ≡ record_bytes b vdr) (order : first ≤ last) (short : length b ≤ image_limit) (c : IsCut b mid kind own (opening first last)) where
       pub join_room : (leaf : FoundLeaf) → later ≡ Some leaf → leaf.at + (12 + (leaf.last + 1 - leaf.first) * rec_bytes) ≤ length mid
-      join_room leaf e = omega (arith, block_there size leaf e, long_cut good among order short c)
+      join_room leaf e = omega (arith, block_there size leaf e, long_cut good among order short c loose)
 
       pub open_joined : {now : List ℕ} (leaf : FoundLeaf) → later ≡ Some leaf → first ≤ leaf.first → JoinsFront mid now rec_bytes first last (seen leaf) → CutOpen b now kind before own after first last
       open_joined {now = now} leaf e from joins =
@@ -133,8 +137,8 @@ module _ {b : List ℕ} (good : Good b) {kind : Kind} {before : List VariableSha
           record {
             own' = with_index own (index_opened own first last);
             takes = [];
-            opened = opened_none good among order short c (inr (seen leaf, (o.0, (from, record { has_later = o.1; joins = subst (λ (n : ℕ). JoinsFront mid now n first last (seen leaf)) (size_own size) joins }))));
+            opened = opened_none good among order short c loose (inr (seen leaf, (o.0, (from, record { has_later = o.1; joins = subst (λ (n : ℕ). JoinsFront mid now n first last (seen leaf)) (size_own size) joins }))));
           }
 
       pub open_none : {now : List ℕ} → later ≡ None → now ≡ mid → CutOpen b now kind before own after first last
-      open_none e still = record { own' = with_index own (index_opened own first last); takes = []; opened = opened_none good among order short c (inl (still, of_own None e)) }
+      open_none e still = record { own' = with_index own (index_opened own first last); takes = []; opened = opened_none good among order short c loose (inl (still, of_own None e)) }

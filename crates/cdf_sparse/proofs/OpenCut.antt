@@ -13,7 +13,6 @@ use Rattle.cdf_index.proofs.LeafRules.{index_order}
 use Rattle.cdf_index.specs.Order.{InOrder}
 use Rattle.cdf_index.specs.Replacing.{with_index}
 use Rattle.cdf_puts.proofs.GoesThen.{later_size}
-use Rattle.cdf_edits.proofs.Edits.StandsAmong.{loose}
 use Rattle.cdf_puts.specs.Going.{GoesOn}
 use Rattle.cdf_cuts.proofs.CutFreed.{own_most}
 use Rattle.cdf_cuts.proofs.CutGoes.{block_stays, cut_goes, long_now, max_rec_now, r_max_rec_now}
@@ -28,6 +27,7 @@ use Rattle.cdf_cuts.specs.Planning.{opening}
 use Rattle.cdf_sparse.proofs.OpenBlocks.{BlockStill, Within}
 use Rattle.cdf_sparse.proofs.OpenLeaves.{Back, Front, kept_some, not_none}
 use Rattle.cdf_sparse.specs.Opening.{freed_opening, index_opened}
+use Rattle.cdf_format.specs.Shape.{is_compressed}
 
 -- ---- a record of the index of a variable is there once
 
@@ -55,7 +55,7 @@ left_in first last order old new le e (inr k) =
     let r = k.ends in
     record { within = record { place_is = e; from = omega (arith, k.first_is); some = omega (arith, k.first_is, k.last_is); upto = omega (arith, k.last_is) }; side = inr k }
 
-module _ {b mid : List ℕ} {kind : Kind} {before : List VariableShape} {own : VariableShape} {after : List VariableShape} {first last : ℕ} (good : Good b) (at : StandsAmong b kind before own after) (order : first ≤ last) (short : length b ≤ image_limit) (c : IsCut b mid kind own (opening first last)) where
+module _ {b mid : List ℕ} {kind : Kind} {before : List VariableShape} {own : VariableShape} {after : List VariableShape} {first last : ℕ} (good : Good b) (at : StandsAmong b kind before own after) (order : first ≤ last) (short : length b ≤ image_limit) (c : IsCut b mid kind own (opening first last)) (loose : is_compressed b own.vdr ≡ false) where
   abbrev leaves : List Leaf
   leaves = leaves_of own.index
 
@@ -72,7 +72,7 @@ module _ {b mid : List ℕ} {kind : Kind} {before : List VariableShape} {own : V
   leaves' = leaves_of (index_opened own first last)
 
   pub plain : (l : Leaf) → IsOneOf leaves l → PlainLeaf b size l
-  plain l i = plain_leaf good at (loose good at) l i
+  plain l i = plain_leaf good at loose l i
 
   unpacked : Each (λ (l : Leaf). l.packed ≡ false) leaves
   unpacked = each_of (λ (l : Leaf). l.packed ≡ false) leaves (λ l i. (plain l i).plain)
@@ -115,7 +115,7 @@ module _ {b mid : List ℕ} {kind : Kind} {before : List VariableShape} {own : V
   pub part_cut : (old new : Leaf) → IsOneOf (leaves_of own.index) old → IsOneOf (leaves_of (index_opened own first last)) new → IsPart (kept_open first last) old new → LeftIn first last order old new
   part_cut old new i j part =
       let v = variable_of b own in
-      let s = of_each (StaysWhole v (kept_open first last) (gave b freed) old) leaves' new (of_each (λ (o : Leaf). Each (StaysWhole v (kept_open first last) (gave b freed) o) leaves') leaves old (cuts_cut v).stay i) j part (rw (loose good at) (or_true (is_whole old new))) in
+      let s = of_each (StaysWhole v (kept_open first last) (gave b freed) old) leaves' new (of_each (λ (o : Leaf). Each (StaysWhole v (kept_open first last) (gave b freed) o) leaves') leaves old (cuts_cut v).stay i) j part (rw loose (or_true (is_whole old new))) in
       left_in first last order old new (plain old i).ordered s.0 (kept_some first last order old new [] part)
 
   -- ---- their blocks

@@ -24,6 +24,7 @@ use Rattle.cdf_cuts.specs.Planning.{opening}
 use Rattle.cdf_sparse.proofs.OpenCut as by
 use Rattle.cdf_sparse.proofs.OpenStep.{IsApart, all_keep, descriptor_cut, gdr_cut, heads, sizes_cut, step_cut}
 use Rattle.cdf_sparse.specs.Opening.{freed_opening, index_opened}
+use Rattle.cdf_format.specs.Shape.{is_compressed}
 
 -- ---- records are written where they stand: the nodes, VXRtail and what was freed are as they were
 
@@ -104,7 +105,7 @@ module _ {b now : List ℕ} {kind : Kind} {before : List VariableShape} {own : V
 
 -- ---- the whole
 
-module _ {b mid : List ℕ} {kind : Kind} {before : List VariableShape} {own : VariableShape} {after : List VariableShape} {first last : ℕ} (good : Good b) (at : StandsAmong b kind before own after) (order : first ≤ last) (short : length b ≤ image_limit) (c : IsCut b mid kind own (opening first last)) where
+module _ {b mid : List ℕ} {kind : Kind} {before : List VariableShape} {own : VariableShape} {after : List VariableShape} {first last : ℕ} (good : Good b) (at : StandsAmong b kind before own after) (order : first ≤ last) (short : length b ≤ image_limit) (c : IsCut b mid kind own (opening first last)) (loose : is_compressed b own.vdr ≡ false) where
   abbrev left : VariableShape
   left = with_index own (index_opened own first last)
 
@@ -112,20 +113,20 @@ module _ {b mid : List ℕ} {kind : Kind} {before : List VariableShape} {own : V
   acts = gave b (freed_opening own first last)
 
   goes_cut : GoesOn b mid kind before own left after acts
-  goes_cut = by.goes_cut good at order short c
+  goes_cut = by.goes_cut good at order short c loose
 
   short_cut : length mid ≤ image_limit
-  short_cut = omega (arith, by.long_cut good at order short c, short)
+  short_cut = omega (arith, by.long_cut good at order short c loose, short)
 
   by_moved : {now : List ℕ} → BlockMoved mid now left → ((l : Leaf) → IsOneOf (leaves_of own.index) l → IsApart first last l → Stays b now l.place []) → (next : ℕ) → Goes (found_in b kind before own) (stage b own [] next) (stage now left acts next) (λ r. nat_lt 0 (shared first last r))
   by_moved {now = now} x blocks next =
       let goes = goes_cut in
       let w = writes goes.good goes.among x in
-      let gdr = stays_then b mid now (shape b).gdr space_fields [] space_fields (gdr_cut good at order short c) (subst (λ (m : ℕ). Stays mid now m []) goes.gdr_is (gdr_stays goes.good goes.among x)) (λ i out. (out, tt)) in
-      let descriptor = stays_then b mid now own.vdr heads [] heads (descriptor_cut good at order short c) (descriptor_stays goes.good goes.among x) (λ i out. (out, tt)) in
-      step_then good at goes w short_cut (sizes_cut good at order short c) (step_cut good at order short c next) (all_keep good at order (goes_more good at goes w short_cut) gdr descriptor blocks)
+      let gdr = stays_then b mid now (shape b).gdr space_fields [] space_fields (gdr_cut good at order short c loose) (subst (λ (m : ℕ). Stays mid now m []) goes.gdr_is (gdr_stays goes.good goes.among x)) (λ i out. (out, tt)) in
+      let descriptor = stays_then b mid now own.vdr heads [] heads (descriptor_cut good at order short c loose) (descriptor_stays goes.good goes.among x) (λ i out. (out, tt)) in
+      step_then good at goes w short_cut (sizes_cut good at order short c loose) (step_cut good at order short c loose next) (all_keep good at order loose (goes_more good at goes w short_cut) gdr descriptor blocks)
 
   pub step_none : {now : List ℕ} → (now ≡ mid) ⊎ BlockMoved mid now (with_index own (index_opened own first last)) → ((l : Leaf) → IsOneOf (leaves_of own.index) l → IsApart first last l → Stays b now l.place [])
       → (next : ℕ) → Goes (found_in b kind before own) (stage b own [] next) (stage now (with_index own (index_opened own first last)) (gave b (freed_opening own first last)) next) (λ r. nat_lt 0 (shared first last r))
-  step_none (inl same) blocks next = subst (λ (y : List ℕ). Goes (found_in b kind before own) (stage b own [] next) (stage y left acts next) (λ r. nat_lt 0 (shared first last r))) (sym same) (step_cut good at order short c next)
+  step_none (inl same) blocks next = subst (λ (y : List ℕ). Goes (found_in b kind before own) (stage b own [] next) (stage y left acts next) (λ r. nat_lt 0 (shared first last r))) (sym same) (step_cut good at order short c loose next)
   step_none (inr x) blocks next = by_moved x blocks next

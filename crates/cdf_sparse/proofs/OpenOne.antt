@@ -23,12 +23,11 @@ use Rattle.cdf_index.specs.Adding.{LeafAdded, NodeTaken, leaf_acts}
 use Rattle.cdf_leaves.proofs.Own.{own_node}
 use Rattle.cdf_index.specs.Replacing.{with_index}
 use Rattle.cdf_puts.proofs.CoveringRanges.{some_or_none}
-use Rattle.cdf_puts.proofs.GoesThen.{later_size}
+use Rattle.cdf_puts.proofs.GoesThen.{later_size, later_loose}
 use Rattle.cdf_puts.proofs.LeafCounts.{one_of_leaves}
 use Rattle.cdf_puts.proofs.LeafEdit.{blocks_go_on, body_long, leaf_goes_on, leaf_max_rec, node_taken, r_max_rec_stays, used_apart}
 use Rattle.cdf_puts.proofs.PutBytes.{found_covering}
 use Rattle.cdf_puts.proofs.PutNodes.{place_outside}
-use Rattle.cdf_edits.proofs.Edits.StandsAmong.{loose}
 use Rattle.cdf_puts.specs.Going.{GoesOn}
 use Rattle.cdf_puts.specs.SoFar.{taken_places}
 use Rattle.cdf_puts.specs.Steps.{IsBlockBody, IsVacant}
@@ -46,11 +45,12 @@ use Rattle.cdf_sparse.proofs.OpenNodes.{any_of, given_before, new_sized, node_ne
 use Rattle.cdf_sparse.proofs.OpenNone.{still_stays}
 use Rattle.cdf_sparse.proofs.OpenOneStep.{step_one}
 use Rattle.cdf_sparse.specs.Opening.{IsDivided, OneDivided, PartStays, PartTaken, RecordsOpened, freed_opening, index_opened, later_records, opening_acts}
+use Rattle.cdf_format.specs.Shape.{is_compressed}
 
 outside_zero : (news : List ℕ) (at room : ℕ) → (room ≡ 0 → at ≡ 0) → (1 ≤ room → is_in at news ≡ true) → place_outside news at ≡ 0
 outside_zero news at room none some = grind (arith, none, some)
 
-module _ {b mid now : List ℕ} {kind : Kind} {before : List VariableShape} {own : VariableShape} {after : List VariableShape} {first last place at : ℕ} {old : Leaf} {body : List ℕ} (good : Good b) (stand : StandsAmong b kind before own after) (order : first ≤ last) (short : length b ≤ image_limit) (c : IsCut b mid kind own (opening first last))
+module _ {b mid now : List ℕ} {kind : Kind} {before : List VariableShape} {own : VariableShape} {after : List VariableShape} {first last place at : ℕ} {old : Leaf} {body : List ℕ} (good : Good b) (stand : StandsAmong b kind before own after) (order : first ≤ last) (short : length b ≤ image_limit) (c : IsCut b mid kind own (opening first last)) (loose : is_compressed b own.vdr ≡ false)
     (i : IsOneOf (leaves_of own.index) old) (d : IsDivided first last old) (says : IsBlockBody body (later_records b (record_bytes b own.vdr) last old)) (w : LeafAdded mid now (with_index own (index_opened own first last)) (leaf (last + 1) old.last place false) body at) (still_short : length now ≤ image_limit) where
   abbrev v : Variable
   v = variable_of b own
@@ -86,12 +86,12 @@ module _ {b mid now : List ℕ} {kind : Kind} {before : List VariableShape} {own
   acts = opening_acts b own first last step
 
   goes_first : GoesOn b mid kind before own left after (gave b (freed_opening own first last))
-  goes_first = by.goes_cut good stand order short c
+  goes_first = by.goes_cut good stand order short c loose
 
   -- ---- the leaf is divided
 
   was : PlainLeaf b size old
-  was = by.plain good stand order short c old i
+  was = by.plain good stand order short c loose old i
 
   -- of no other leaf there are records before the last one that goes and behind it
   alone : (l : Leaf) → IsOneOf leaves l → l.first ≤ last → last < l.last → l ≡ old
@@ -113,11 +113,11 @@ module _ {b mid now : List ℕ} {kind : Kind} {before : List VariableShape} {own
     uncovered = elim (some_or_none (find (λ (leaf : Leaf). covers (last + 1) (range leaf.first leaf.last)) leaves')) [
       | inl y ↦
           let o = found_covering (last + 1) leaves' y.0 y.1 in
-          let t = by.from_cut good stand order short c y.0 o.0 in
+          let t = by.from_cut good stand order short c loose y.0 o.0 in
           absurd (no_part t.0 t.1.0 (omega (arith, t.1.1.within.from, o.1.0)) y.0 t.1.1 o.1.0 o.1.1)
       | inr none ↦ none
     ];
-    before_next = next_left first last own.index (by.was_order good stand order short c) old i (omega (arith, d.begins)) was.small;
+    before_next = next_left first last own.index (by.was_order good stand order short c loose) old i (omega (arith, d.begins)) was.small;
   }
 
   many : count new ≡ old.last - last
@@ -129,14 +129,14 @@ module _ {b mid now : List ℕ} {kind : Kind} {before : List VariableShape} {own
       let f = d.begins in
       let all = times_add (last + 1 - old.first) (old.last - last) size in
       let fit = times_le (last + 1 - old.first + (old.last - last)) (count old) size (omega arith) in
-      let inside = by.inside good stand order short c old i in
+      let inside = by.inside good stand order short c loose old i in
       length-take-le ((old.last - last) * size) (drop (old.place + vvr_place ((last + 1 - old.first) * size)) b) (omega (arith, length-drop (old.place + vvr_place ((last + 1 - old.first) * size)) b, was.room))
 
   as_long_mid : length records ≡ (old.last + 1 - (last + 1)) * record_bytes mid own.vdr
-  as_long_mid = as_long ∙ (λ k. (sym many k) * (sym (by.size_cut good stand order short c) k))
+  as_long_mid = as_long ∙ (λ k. (sym many k) * (sym (by.size_cut good stand order short c loose) k))
 
   second : GoesOn mid now kind before left own' after step
-  second = leaf_goes_on goes_first.good goes_first.among w says vacant as_long_mid still_short
+  second = leaf_goes_on goes_first.good goes_first.among w says vacant as_long_mid still_short (later_loose good stand goes_first loose)
 
   pub goes : GoesOn b now kind before own own' after acts
   goes = goes_taken good stand goes_first second (taken-gave b (freed_opening own first last)) (takes_leaf place (8 + length body) room at)
@@ -144,13 +144,13 @@ module _ {b mid now : List ℕ} {kind : Kind} {before : List VariableShape} {own
   -- ---- the leaves by then
 
   in_order' : (l : Leaf) → (IsOneOf (leaves_of own'.index) l → (l ≡ new) ⊎ IsOneOf leaves' l) × ((l ≡ new) ⊎ IsOneOf leaves' l → IsOneOf (leaves_of own'.index) l)
-  in_order' l = one_of_leaves new at 0 record_number_limit (index_opened own first last) (by.in_order good stand order short c) l
+  in_order' l = one_of_leaves new at 0 record_number_limit (index_opened own first last) (by.in_order good stand order short c loose) l
 
   not_new : (l : Leaf) → IsOneOf leaves l → IsPart (kept_open first last) l new → ⊥
   not_new l j part = elim (kept_some first last order l new [] part) [
     | inl k ↦ absurd (omega (arith, k.first_is, k.reaches))
     | inr k ↦
-        let o = (by.plain good stand order short c l j).ordered in
+        let o = (by.plain good stand order short c loose l j).ordered in
         let e = d.ends in
         let q : l ≡ old = same_leaf old.last leaves (leaves_ascend good stand) l old j i (omega (arith, k.last_is)) (omega (arith, k.last_is)) was.ordered (omega arith) in
         absurd (omega (arith, k.from, d.begins, ap (λ (y : Leaf). y.first) q))
@@ -167,7 +167,7 @@ module _ {b mid now : List ℕ} {kind : Kind} {before : List VariableShape} {own
       elim ((in_order' m).0 k) [
         | inl r ↦ (r, q)
         | inr x ↦
-            let t = by.from_cut good stand order short c m x in
+            let t = by.from_cut good stand order short c loose m x in
             absurd (no_part t.0 t.1.0 (omega (arith, t.1.1.within.from, s.1.0)) m t.1.1 (omega (arith, s.1.0)) (omega (arith, s.1.1)))
       ]
 
@@ -183,7 +183,7 @@ module _ {b mid now : List ℕ} {kind : Kind} {before : List VariableShape} {own
   untaken m j used = taken_at m ∙ used_apart goes_first.good goes_first.among w m j used
 
   mid_plain : (m : Leaf) → IsOneOf leaves' m → PlainLeaf mid size m
-  mid_plain m j = subst (λ (n : ℕ). PlainLeaf mid n m) (by.size_cut good stand order short c) (plain_leaf goes_first.good goes_first.among (loose goes_first.good goes_first.among) m j)
+  mid_plain m j = subst (λ (n : ℕ). PlainLeaf mid n m) (by.size_cut good stand order short c loose) (plain_leaf goes_first.good goes_first.among (later_loose good stand goes_first loose) m j)
 
   mid_there : (m : Leaf) → IsOneOf leaves' m → In m.place (shape mid).records
   mid_there m j = behind_in goes_first.good goes_first.among m.place (block_behind left m.place (place_in leaves' m j))
@@ -195,30 +195,30 @@ module _ {b mid now : List ℕ} {kind : Kind} {before : List VariableShape} {own
 
   still : (l : Leaf) → IsOneOf leaves l → (l.first < first) ⊎ (last < l.last) → BlockStill b now l
   still l j side n lt =
-      let t = by.to_cut good stand order short c l j side in
+      let t = by.to_cut good stand order short c loose l j side in
       let go = blocks_go_on goes_first.good goes_first.among w says in
       let p = t.1.1.within.place_is in
       let same = of_each (λ (m : Leaf). Same mid now m.place (m.place + size_at mid m.place)) leaves' t.0 go.old t.1.0 in
-      let sized = ap (size_at mid) p ∙ by.sized_cut good stand order short c l j side in
-      same.each (l.place + n) (omega (arith, p)) (omega (arith, p, sized, lt)) ∙ by.still_cut good stand order short c l j side n lt
+      let sized = ap (size_at mid) p ∙ by.sized_cut good stand order short c loose l j side in
+      same.each (l.place + n) (omega (arith, p)) (omega (arith, p, sized, lt)) ∙ by.still_cut good stand order short c loose l j side n lt
 
   size_now : record_bytes now own.vdr ≡ size
   size_now = later_size good stand goes
 
   longer : length b ≤ length now
-  longer = omega (arith, by.long_cut good stand order short c, goes_longer)
+  longer = omega (arith, by.long_cut good stand order short c loose, goes_longer)
     where
       goes_longer : length mid ≤ length now
       goes_longer = second.file.longer
 
   plain_now : (m : Leaf) → IsOneOf (leaves_of own'.index) m → PlainLeaf now size m
-  plain_now m j = subst (λ (n : ℕ). PlainLeaf now n m) size_now (plain_leaf goes.good goes.among (loose goes.good goes.among) m j)
+  plain_now m j = subst (λ (n : ℕ). PlainLeaf now n m) size_now (plain_leaf goes.good goes.among (later_loose good stand goes loose) m j)
 
   kept : (l m : Leaf) → IsOneOf leaves l → IsOneOf (leaves_of own'.index) m → IsPart (kept_open first last) l m → PartStays b now v own.vdr acts l m
   kept l m j k part =
       let k' = part_left l m j k part in
-      let x = by.part_cut good stand order short c l m j k' part in
-      let p = by.plain good stand order short c l j in
+      let x = by.part_cut good stand order short c loose l m j k' part in
+      let p = by.plain good stand order short c loose l j in
       let at : PartAt b now size l m = elim x.side [
         | inl f ↦ still_part p x.within f.first_is (still l j (inl f.reaches))
         | inr g ↦ elim (cases_lt last l.first) [
@@ -226,7 +226,7 @@ module _ {b mid now : List ℕ} {kind : Kind} {before : List VariableShape} {own
           | inr le ↦ absurd (omega (arith, g.from, d.begins, ap (λ (y : Leaf). y.first) (alone l j le g.ends)))
         ]
       ] in
-      part_stays own.vdr refl size_now p (plain_now m k) x.within (by.inside good stand order short c l j) longer at v acts (loose good stand) refl (block_untaken m k')
+      part_stays own.vdr refl size_now p (plain_now m k) x.within (by.inside good stand order short c loose l j) longer at v acts loose refl (block_untaken m k')
 
   -- ---- the block that is new
 
@@ -272,7 +272,7 @@ module _ {b mid now : List ℕ} {kind : Kind} {before : List VariableShape} {own
         size_is = go.size_is ∙ ap (λ (n : ℕ). max 28 n) (sym end_new);
         written = record {
           plain_is = plain_new ∙ records_were;
-          packed = λ q. absurd (true≢false (sym q ∙ loose good stand));
+          packed = λ q. absurd (true≢false (sym q ∙ loose));
           spare = subst (SpareIs b now own.vdr new) (sym is_new) (λ n low up. go.spare n (omega (arith, low, end_new)) up);
           reserved = λ q. absurd (true≢false (sym q));
         };
@@ -285,10 +285,10 @@ module _ {b mid now : List ℕ} {kind : Kind} {before : List VariableShape} {own
 
   untouched : (l : Leaf) → IsOneOf leaves l → (l.last < first) ⊎ (last < l.first) → Stays b now l.place []
   untouched l j side =
-      let p = by.plain good stand order short c l j in
+      let p = by.plain good stand order short c loose l j in
       let o = p.ordered in
       let s : (l.first < first) ⊎ (last < l.last) = elim side [ inl x ↦ inl (omega arith) | inr x ↦ inr (omega arith) ] in
-      let t = by.to_cut good stand order short c l j s in
+      let t = by.to_cut good stand order short c loose l j s in
       let there = behind_in goes.good goes.among t.0.place (block_behind own' t.0.place (place_in (leaves_of own'.index) t.0 ((in_order' t.0).1 (inr t.1.0)))) in
       still_stays l (still l j s) (omega (arith, p.room)) (subst (λ (m : ℕ). In m (shape now).records) t.1.1.within.place_is there)
 
@@ -317,7 +317,7 @@ module _ {b mid now : List ℕ} {kind : Kind} {before : List VariableShape} {own
 
   cuts : (v : Variable) → record_length v ≡ record_bytes b own.vdr → CutsIndex v (kept_open first last) own.index (index_cut_open first last own.index) own'.index acts
   cuts v long =
-      let was = by.cuts_cut good stand order short c v in
+      let was = by.cuts_cut good stand order short c loose v in
       let freed = freed_opening own first last in
       let index = index_opened own first last in
       let before : List Act = gave b freed in
@@ -357,13 +357,14 @@ module _ {b mid now : List ℕ} {kind : Kind} {before : List VariableShape} {own
 
   pub opened_one : RecordsOpened b now kind before own own' after first last step
   opened_one = record {
+    loose = loose;
     goes = goes;
     divided = inr one;
     cuts = cuts;
     kept = kept;
     split = split;
     apart = untouched;
-    max_rec_is = leaf_max_rec goes_first.good goes_first.among w ∙ by.max_cut good stand order short c;
-    r_max_rec_is = r_max_rec_stays goes_first.good goes_first.among w ∙ by.r_max_cut good stand order short c;
-    step = step_one good stand order short c w second goes untouched;
+    max_rec_is = leaf_max_rec goes_first.good goes_first.among w ∙ by.max_cut good stand order short c loose;
+    r_max_rec_is = r_max_rec_stays goes_first.good goes_first.among w ∙ by.r_max_cut good stand order short c loose;
+    step = step_one good stand order short c loose w second goes untouched;
   }

@@ -36,6 +36,7 @@ use Rattle.cdf_sparse.proofs.OpenEntries.{entry_then, node_uses, tail_one, top_n
 use Rattle.cdf_sparse.proofs.OpenNodes.{taken_behind, takes_leaf}
 use Rattle.cdf_sparse.proofs.OpenStep.{IsApart, all_keep, descriptor_cut, entries_cut, gdr_cut, heads, sizes_cut, step_cut}
 use Rattle.cdf_sparse.specs.Opening.{freed_opening, index_opened, opening_acts}
+use Rattle.cdf_format.specs.Shape.{is_compressed}
 
 -- ---- marks
 
@@ -79,7 +80,7 @@ module _ {b now : List ℕ} {kind : Kind} {before : List VariableShape} {own : V
 
 -- ---- the cut, and then the leaf
 
-module _ {b mid now : List ℕ} {kind : Kind} {before : List VariableShape} {own : VariableShape} {after : List VariableShape} {first last : ℕ} {new : Leaf} {body : List ℕ} {at : ℕ} (good : Good b) (stand : StandsAmong b kind before own after) (order : first ≤ last) (short : length b ≤ image_limit) (c : IsCut b mid kind own (opening first last))
+module _ {b mid now : List ℕ} {kind : Kind} {before : List VariableShape} {own : VariableShape} {after : List VariableShape} {first last : ℕ} {new : Leaf} {body : List ℕ} {at : ℕ} (good : Good b) (stand : StandsAmong b kind before own after) (order : first ≤ last) (short : length b ≤ image_limit) (c : IsCut b mid kind own (opening first last)) (loose : is_compressed b own.vdr ≡ false)
     (w : LeafAdded mid now (with_index own (index_opened own first last)) new body at) (second : GoesOn mid now kind before (with_index own (index_opened own first last)) (with_index own (with_leaf new at (index_opened own first last))) after (leaf_acts new.place (8 + length body) (new_room new.first (index_opened own first last)) at))
     (goes : GoesOn b now kind before own (with_index own (with_leaf new at (index_opened own first last))) after (opening_acts b own first last (leaf_acts new.place (8 + length body) (new_room new.first (index_opened own first last)) at))) (blocks : (l : Leaf) → IsOneOf (leaves_of own.index) l → IsApart first last l → Stays b now l.place []) where
   abbrev rest : Nodes
@@ -104,10 +105,10 @@ module _ {b mid now : List ℕ} {kind : Kind} {before : List VariableShape} {own
   acts = opening_acts b own first last step
 
   one : GoesOn b mid kind before own left after cut
-  one = by.goes_cut good stand order short c
+  one = by.goes_cut good stand order short c loose
 
   was : (next : ℕ) → Goes (found_in b kind before own) (stage b own [] next) (stage mid left cut next) (λ r. nat_lt 0 (shared first last r))
-  was next = step_cut good stand order short c next
+  was next = step_cut good stand order short c loose next
 
   nodes : NodesStep mid now rest (nodes_of own'.index) step
   nodes = nodes_step one.good one.among w
@@ -128,10 +129,10 @@ module _ {b mid now : List ℕ} {kind : Kind} {before : List VariableShape} {own
   gdr : Stays b now (shape b).gdr space_fields
   gdr =
       let later = gdr_stays one.good one.among (new_index one.good one.among w) (leaf_within kind own.vdr (shape mid).unused (reborn one.good one.among w) (all_nodes one.good one.among w) (enough one.good one.among w) (length w.roomy)) in
-      stays_then b mid now (shape b).gdr space_fields space_fields space_fields (gdr_cut good stand order short c) (subst (λ (g : ℕ). Stays mid now g space_fields) one.gdr_is later) (λ i o. (o, o))
+      stays_then b mid now (shape b).gdr space_fields space_fields space_fields (gdr_cut good stand order short c loose) (subst (λ (g : ℕ). Stays mid now g space_fields) one.gdr_is later) (λ i o. (o, o))
 
   descriptor : Stays b now own.vdr heads
-  descriptor = stays_then b mid now own.vdr heads heads heads (descriptor_cut good stand order short c) (heads_stay one.good one.among (new_index one.good one.among w) second.descriptor) (λ i o. (o, o))
+  descriptor = stays_then b mid now own.vdr heads heads heads (descriptor_cut good stand order short c loose) (heads_stay one.good one.among (new_index one.good one.among w) second.descriptor) (λ i o. (o, o))
 
   -- ---- the nodes
 
@@ -145,13 +146,13 @@ module _ {b mid now : List ℕ} {kind : Kind} {before : List VariableShape} {own
 
   entries : (m : ℕ) → In m (nodes_of own'.index) → (i : ℕ) → used_count now m ≤ i → i < room_at now m → EntryIs b now m i (was_unused b (nodes_of own.index) acts m i)
   entries =
-      entry_then b mid now rest (nodes_of own.index) (nodes_of rest) (nodes_of own'.index) cut step (entries_cut good stand order short c) nodes.unused nodes.apart nodes.come nodes.rooms
+      entry_then b mid now rest (nodes_of own.index) (nodes_of rest) (nodes_of own'.index) cut step (entries_cut good stand order short c loose) nodes.unused nodes.apart nodes.come nodes.rooms
       (λ m i e. node_uses mid (shape mid).records m i 8 rest (has one.good one.among).indexed.has_nodes e) fewer
 
   spare : (m : ℕ) → In m (nodes_of own'.index) → NodeSpareStays b now acts m
   spare m k = elim (nodes.come m k) [
     | inr t ↦ (λ e. absurd (true≢false (sym (taken_at m ∙ t) ∙ e)))
-    | inl j ↦ spare_then b mid now acts m (nodes.rooms m j) (λ e. sizes_cut good stand order short c m j) (nodes.spare m j) (λ e. Each-in (NodeSpareStays b mid cut) (nodes_of rest) (was 0).spare m j (none_cut m))
+    | inl j ↦ spare_then b mid now acts m (nodes.rooms m j) (λ e. sizes_cut good stand order short c loose m j) (nodes.spare m j) (λ e. Each-in (NodeSpareStays b mid cut) (nodes_of rest) (was 0).spare m j (none_cut m))
   ]
 
   -- ---- VXRtail
@@ -182,7 +183,7 @@ module _ {b mid now : List ℕ} {kind : Kind} {before : List VariableShape} {own
     good = goes.good;
     stands = own_there goes.good goes.among;
     acts_follow = goes.follow;
-    keeps = all_keep good stand order goes gdr descriptor blocks;
+    keeps = all_keep good stand order loose goes gdr descriptor blocks;
     unused = each_from (λ m. (i : ℕ) → used_count now m ≤ i → i < room_at now m → EntryIs b now m i (was_unused b (nodes_of own.index) acts m i)) (nodes_of own'.index) entries;
     spare = each_from (NodeSpareStays b now acts) (nodes_of own'.index) spare;
     tail = tail;

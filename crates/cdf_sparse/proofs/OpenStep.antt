@@ -31,6 +31,8 @@ use Rattle.cdf_cuts.specs.Past.{stage}
 use Rattle.cdf_cuts.specs.Planning.{opening}
 use Rattle.cdf_sparse.proofs.OpenCut as by
 use Rattle.cdf_sparse.specs.Opening.{freed_opening, index_opened}
+use Rattle.cdf_format.specs.Shape.{is_compressed}
+use Rattle.std.specs.Prelude.{false}
 
 -- the links of the descriptor to the nodes
 abbrev pub heads : List Field
@@ -55,7 +57,7 @@ block_keeps {first = first} {last = last} l order ordered stays = elim (cases_lt
   ]
 ]
 
-module _ {b now : List ℕ} {kind : Kind} {before : List VariableShape} {own own' : VariableShape} {after : List VariableShape} {acts : List Act} {first last : ℕ} (good : Good b) (at : StandsAmong b kind before own after) (order : first ≤ last) (goes : GoesOn b now kind before own own' after acts) (gdr : Stays b now (shape b).gdr space_fields) (descriptor : Stays b now own.vdr heads)
+module _ {b now : List ℕ} {kind : Kind} {before : List VariableShape} {own own' : VariableShape} {after : List VariableShape} {acts : List Act} {first last : ℕ} (good : Good b) (at : StandsAmong b kind before own after) (order : first ≤ last) (loose : is_compressed b own.vdr ≡ false) (goes : GoesOn b now kind before own own' after acts) (gdr : Stays b now (shape b).gdr space_fields) (descriptor : Stays b now own.vdr heads)
     (blocks : (l : Leaf) → IsOneOf (leaves_of own.index) l → IsApart first last l → Stays b now l.place []) where
   abbrev may : Allowances
   may = step_changes b (found_in b kind before own) (has_some first last)
@@ -73,14 +75,14 @@ module _ {b now : List ℕ} {kind : Kind} {before : List VariableShape} {own own
   own_keeps = each_own (λ (m : ℕ). Keeps b now m (own_may m)) own (rw (of_own.descriptor_allowed (found_in b kind before own) good at refl heads block_may own_may allowed) descriptor)
       (λ m i. rw (of_own.node_allowed (found_in b kind before own) good at refl heads block_may own_may allowed m i) tt)
       (λ l i. rw (of_own.block_allowed (found_in b kind before own) good at refl heads block_may own_may allowed l i) (block_keeps l order (in_order 0 (suc record_number_limit) (leaves_of own.index) (leaves_ascend good at) l i).ordered (blocks l i)))
-      (λ m i. absurd (subst (In m) (no_cpr good at) i))
+      (λ m i. absurd (subst (In m) (no_cpr good at loose) i))
 
   pub all_keep : AllKeep b now (step_changes b (found_in b kind before own) (λ r. nat_lt 0 (shared first last r))) acts (owned b (shape b))
   all_keep = goes_keep good at goes may gdr own_keeps
 
 -- ---- the cut
 
-module _ {b mid : List ℕ} {kind : Kind} {before : List VariableShape} {own : VariableShape} {after : List VariableShape} {first last : ℕ} (good : Good b) (at : StandsAmong b kind before own after) (order : first ≤ last) (short : length b ≤ image_limit) (c : IsCut b mid kind own (opening first last)) where
+module _ {b mid : List ℕ} {kind : Kind} {before : List VariableShape} {own : VariableShape} {after : List VariableShape} {first last : ℕ} (good : Good b) (at : StandsAmong b kind before own after) (order : first ≤ last) (short : length b ≤ image_limit) (c : IsCut b mid kind own (opening first last)) (loose : is_compressed b own.vdr ≡ false) where
   abbrev rest : Nodes
   rest = index_opened own first last
 
@@ -94,7 +96,7 @@ module _ {b mid : List ℕ} {kind : Kind} {before : List VariableShape} {own : V
   acts = gave b (freed_opening own first last)
 
   goes_on : GoesOn b mid kind before own left after acts
-  goes_on = by.goes_cut good at order short c
+  goes_on = by.goes_cut good at order short c loose
 
   -- ---- the GDR and the descriptor
 
@@ -118,10 +120,10 @@ module _ {b mid : List ℕ} {kind : Kind} {before : List VariableShape} {own : V
 
   pub block_cut : (l : Leaf) → IsOneOf (leaves_of own.index) l → IsApart first last l → Stays b mid l.place []
   block_cut l i side =
-      let p = by.plain good at order short c l i in
+      let p = by.plain good at order short c loose l i in
       let o = p.ordered in
       let s : (l.first < first) ⊎ (last < l.last) = elim side [ inl x ↦ inl (omega arith) | inr x ↦ inr (omega arith) ] in
-      keeps_stood b mid l.place (record { stands = behind_in goes_on.good goes_on.among l.place (block_behind left l.place (by.place_left good at order short c l i s)); whole = by.kept_cut good at order short c l i s }) (Only [])
+      keeps_stood b mid l.place (record { stands = behind_in goes_on.good goes_on.among l.place (block_behind left l.place (by.place_left good at order short c loose l i s)); whole = by.kept_cut good at order short c loose l i s }) (Only [])
 
   -- ---- the nodes
 
@@ -138,7 +140,7 @@ module _ {b mid : List ℕ} {kind : Kind} {before : List VariableShape} {own : V
     good = goes_on.good;
     stands = own_there goes_on.good goes_on.among;
     acts_follow = goes_on.follow;
-    keeps = all_keep good at order goes_on gdr_cut descriptor_cut block_cut;
+    keeps = all_keep good at order loose goes_on gdr_cut descriptor_cut block_cut;
     unused = each_from (λ m. (i : ℕ) → used_count mid m ≤ i → i < room_at mid m → EntryIs b mid m i (was_unused b (nodes_of own.index) acts m i)) (nodes_of rest) entries_cut;
     spare = each_from (NodeSpareStays b mid acts) (nodes_of rest) (spare_stays good at order c.is_linked short mid c.given);
     tail = tail_now good at order c.is_linked short mid c.given ∙ (λ i. if sym (top_left acts own.index rest (taken-gave b freed)) i then number b own.vdr vdr_vxr_tail else last_node rest);

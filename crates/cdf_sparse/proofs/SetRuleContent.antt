@@ -146,7 +146,7 @@ module _ {b mid now : List ℕ} {kind : Kind} {before : List VariableShape} {own
   own_keeps = each_own (λ (m : ℕ). Keeps b now m (own_may m)) own (rw (of_own.descriptor_allowed (found_in b kind before own) s.good s.among refl fields block_may own_may allowed) vdr_then)
       (λ m i. rw (of_own.node_allowed (found_in b kind before own) s.good s.among refl fields block_may own_may allowed m i) tt)
       (λ l i. rw (of_own.block_allowed (found_in b kind before own) s.good s.among refl fields block_may own_may allowed l i) tt)
-      (λ m i. absurd (subst (In m) (no_cpr s.good s.among) i))
+      (λ m i. absurd (subst (In m) (no_cpr s.good s.among s.cut.loose) i))
 
   pub rule_keeps : AllKeep b now may acts (owned b (shape b))
   rule_keeps =

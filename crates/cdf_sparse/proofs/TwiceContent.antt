@@ -12,9 +12,8 @@ use Rattle.cdf_edits.specs.Index.Blocks.{extent_after}
 use Rattle.cdf_model.specs.Numbered.{greatest}
 use Rattle.cdf_model.specs.RecordSteps.{without_records}
 use Rattle.cdf_puts.proofs.CoveringRanges.{some_or_none}
-use Rattle.cdf_puts.proofs.GoesThen.{goes_written, later_size, stays}
+use Rattle.cdf_puts.proofs.GoesThen.{goes_written, later_size, stays, later_loose}
 use Rattle.cdf_puts.proofs.PutBytes.{found_covering}
-use Rattle.cdf_edits.proofs.Edits.StandsAmong.{loose}
 use Rattle.cdf_puts.specs.Going.{GoesOn, found_in}
 use Rattle.cdf_cuts.proofs.BlocksMoved.{piece_shifted}
 use Rattle.cdf_cuts.proofs.PastContent.{stored_front}
@@ -25,10 +24,12 @@ use Rattle.cdf_sparse.proofs.TwiceGoes.{twice_goes}
 use Rattle.cdf_sparse.proofs.TwiceLeft.{TwiceEnds, TwiceLeft, left_short}
 use Rattle.cdf_sparse.specs.Opening.{opening_acts}
 use Rattle.cdf_sparse.proofs.RecordsLeft.{StoresLeft, records_left}
+use Rattle.cdf_format.specs.Shape.{is_compressed}
+use Rattle.std.specs.Prelude.{false}
 
 -- ---- where no record is written, what is stored stays
 
-module _ {b now : List ℕ} {kind : Kind} {before : List VariableShape} {own : VariableShape} {after : List VariableShape} (good : Good b) (at : StandsAmong b kind before own after) (w : WritesRecords b now kind own []) (goes : GoesOn b now kind before own own after []) where
+module _ {b now : List ℕ} {kind : Kind} {before : List VariableShape} {own : VariableShape} {after : List VariableShape} (good : Good b) (at : StandsAmong b kind before own after) (w : WritesRecords b now kind own []) (goes : GoesOn b now kind before own own after []) (loose : is_compressed b own.vdr ≡ false) where
   abbrev width : ℕ
   width = record_bytes b own.vdr
 
@@ -37,7 +38,7 @@ module _ {b now : List ℕ} {kind : Kind} {before : List VariableShape} {own : V
 
   block_same : (l : Leaf) → IsOneOf blocks l → (k : ℕ) → l.first ≤ k → k ≤ l.last → take width (drop (record_place l width k) now) ≡ take width (drop (record_place l width k) b)
   block_same l i k low high =
-      let p = plain_leaf good at (loose good at) l i in
+      let p = plain_leaf good at loose l i in
       let kept = block_kept good at w l.place (place_in blocks l i) (λ none. none) in
       let fit = times_le (suc (k - l.first)) (l.last + 1 - l.first) width (omega arith) in
       let inside = kept.inside in
@@ -49,7 +50,7 @@ module _ {b now : List ℕ} {kind : Kind} {before : List VariableShape} {own : V
     | inl y ↦
         let l = y.0 in
         let o = found_covering k blocks l y.1 in
-        let p = plain_leaf good at (loose good at) l o.0 in
+        let p = plain_leaf good at loose l o.0 in
         ap (option_map _) y.1 ∙ ap Some (plain_piece now own.vdr width k l p.plain p.small (later_size good at goes) o.1.0 o.1.1 ∙ block_same l o.0 k o.1.0 o.1.1 ∙ sym (plain_piece b own.vdr width k l p.plain p.small refl o.1.0 o.1.1)) ∙ sym (ap (option_map _) y.1)
     | inr none ↦ ap (option_map _) none ∙ sym (ap (option_map _) none)
   ]
@@ -90,13 +91,16 @@ module _ {b mid left now : List ℕ} {kind : Kind} {before : List VariableShape}
   left_size : record_bytes left own''.vdr ≡ size
   left_size = later_size t.opened.goes.good t.opened.goes.among t.past.goes_on ∙ mid_size
 
+  left_loose : is_compressed left own''.vdr ≡ false
+  left_loose = later_loose t.opened.goes.good t.opened.goes.among t.past.goes_on t.past.loose
+
   low_goes : GoesOn left now kind before own'' own'' after []
   low_goes = goes_written t.past.goes_on.good t.past.goes_on.among e.writes (left_short t)
 
   -- below the new MaxRec there is stored what the open cut left
   stored_low : (k : ℕ) → k < end → stored_bytes now own''.vdr size (leaves_of own''.index) k ≡ stored_bytes mid own'.vdr size (leaves_of own'.index) k
   stored_low k lt =
-      subst (λ (n : ℕ). stored_bytes now own''.vdr n (leaves_of own''.index) k ≡ stored_bytes left own''.vdr n (leaves_of own''.index) k) left_size (stored_still t.past.goes_on.good t.past.goes_on.among e.writes low_goes k)
+      subst (λ (n : ℕ). stored_bytes now own''.vdr n (leaves_of own''.index) k ≡ stored_bytes left own''.vdr n (leaves_of own''.index) k) left_size (stored_still t.past.goes_on.good t.past.goes_on.among e.writes low_goes left_loose k)
       ∙ subst (λ (n : ℕ). stored_bytes left own''.vdr n (leaves_of own''.index) k ≡ stored_bytes mid own'.vdr n (leaves_of own'.index) k) mid_size (stored_front t.opened.goes.good t.opened.goes.among t.past k lt)
 
   stores : StoresLeft b now own.vdr own''.vdr (leaves_of own.index) (leaves_of own''.index) first last

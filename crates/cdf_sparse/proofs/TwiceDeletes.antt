@@ -8,7 +8,6 @@ use Rattle.cdf_edits.specs.Index.Cut.{IsPlaced, StaysWhole, is_whole}
 use Rattle.cdf_edits.specs.Index.Grown.{kept_open}
 use Rattle.cdf_model.specs.Limits.{record_number_limit}
 use Rattle.cdf_puts.proofs.GoesThen.{later_size}
-use Rattle.cdf_edits.proofs.Edits.StandsAmong.{loose}
 use Rattle.cdf_puts.specs.Going.{found_in}
 use Rattle.cdf_cuts.proofs.PastFollows.{or_true}
 use Rattle.cdf_cuts.specs.Past.{cut_off, past_acts, stage}
@@ -53,7 +52,7 @@ module _ {b mid left : List ℕ} {kind : Kind} {before : List VariableShape} {ow
 
   placed : (old new : Leaf) → IsOneOf leaves old → IsOneOf leaves' new → IsPlaced b mid v own'.vdr (kept_open first last) cut_acts old new
   placed old new i j part =
-      let rle : v.rle ≡ false = loose t.good t.among in
+      let rle : v.rle ≡ false = t.opened.loose in
       let two = of_each (λ (o : Leaf). Each (StaysWhole v (kept_open first last) cut_acts o) leaves') leaves old (t.opened.cuts v refl).stay i in
       let s = of_each (StaysWhole v (kept_open first last) cut_acts old) leaves' new two j part (rw rle (or_true (is_whole old new))) in
       rw (rle, or_true (is_whole old new)) (s.0, s.2)
@@ -73,7 +72,7 @@ module _ {b mid left : List ℕ} {kind : Kind} {before : List VariableShape} {ow
   -- ---- what is past the new MaxRec
 
   pub cuts_past : CutsOpen found end record_number_limit cut (stage left rest left_acts 0)
-  cuts_past = past_opens t.opened.goes.good t.opened.goes.among t.past v (sym (later_size t.good t.among t.opened.goes)) (loose t.good t.among) cut_acts 0
+  cuts_past = past_opens t.opened.goes.good t.opened.goes.among t.past v (sym (later_size t.good t.among t.opened.goes)) t.opened.loose cut_acts 0
 
   -- ---- the whole
 

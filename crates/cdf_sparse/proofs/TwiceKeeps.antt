@@ -5,7 +5,6 @@ use Rattle.cdf_edits.specs.Commands.Cuts.{del_recs_changes, del_recs_cuts}
 use Rattle.cdf_edits.specs.Index.Blocks.{extent_after}
 use Rattle.cdf_index.proofs.OwnRecords as of_own
 use Rattle.cdf_puts.proofs.PutRules.{no_cpr}
-use Rattle.cdf_edits.proofs.Edits.StandsAmong.{loose}
 use Rattle.cdf_cuts.proofs.CutStay.{LeftOf, nodes_left, to_left}
 use Rattle.cdf_cuts.proofs.GoesKeep.{each_own, goes_keep}
 use Rattle.cdf_cuts.proofs.PastFollows as cutting
@@ -53,7 +52,7 @@ module _ {b mid left now : List ℕ} {kind : Kind} {before : List VariableShape}
   goes = twice_goes t w
 
   plain : (l : Leaf) → IsOneOf leaves l → PlainLeaf b (record_bytes b own.vdr) l
-  plain l i = plain_leaf t.good t.among (loose t.good t.among) l i
+  plain l i = plain_leaf t.good t.among t.opened.loose l i
 
   -- ---- a block that loses no record
 
@@ -111,7 +110,7 @@ module _ {b mid left now : List ℕ} {kind : Kind} {before : List VariableShape}
   own_keeps = each_own (λ (m : ℕ). Keeps b now m (own_may m)) own (rw (of_own.descriptor_allowed (found_in b kind before own) t.good t.among refl put_fields block_may own_may allowed) goes.descriptor)
       (λ m i. rw (of_own.node_allowed (found_in b kind before own) t.good t.among refl put_fields block_may own_may allowed m i) tt)
       (λ l i. rw (of_own.block_allowed (found_in b kind before own) t.good t.among refl put_fields block_may own_may allowed l i) (block_keeps l i))
-      (λ m i. absurd (subst (In m) (no_cpr t.good t.among) i))
+      (λ m i. absurd (subst (In m) (no_cpr t.good t.among t.opened.loose) i))
 
   pub keeps : AllKeep b now may acts (owned b (shape b))
   keeps = goes_keep t.good t.among goes may goes.gdr own_keeps

@@ -17,9 +17,8 @@ use Rattle.cdf_index.proofs.LeafRules.{index_order}
 use Rattle.cdf_index.specs.Adding.{leaf_acts}
 use Rattle.cdf_index.specs.Order.{InOrder}
 use Rattle.cdf_model.specs.Limits.{record_number_limit}
-use Rattle.cdf_puts.proofs.GoesThen.{later_size}
+use Rattle.cdf_puts.proofs.GoesThen.{later_size, later_loose}
 use Rattle.cdf_puts.proofs.LeafCounts.{one_of_leaves}
-use Rattle.cdf_edits.proofs.Edits.StandsAmong.{loose}
 use Rattle.cdf_cuts.proofs.CutOpen.{open_order}
 use Rattle.cdf_cuts.proofs.CutStay.{LeftOf, from_left, nodes_left, to_left}
 use Rattle.cdf_cuts.proofs.CutLeaves.{IsLeft}
@@ -73,10 +72,10 @@ module _ {b mid : List ℕ} {kind : Kind} {before : List VariableShape} {own own
   opened_left = nodes_left (opening first last) own.index
 
   plain : (l : Leaf) → IsOneOf leaves l → PlainLeaf b size l
-  plain l i = plain_leaf good at (loose good at) l i
+  plain l i = plain_leaf good at x.loose l i
 
   pub plain_mid : (m : Leaf) → IsOneOf leaves' m → PlainLeaf mid size m
-  plain_mid m i = subst (λ (n : ℕ). PlainLeaf mid n m) (later_size good at x.goes) (plain_leaf x.goes.good x.goes.among (loose x.goes.good x.goes.among) m i)
+  plain_mid m i = subst (λ (n : ℕ). PlainLeaf mid n m) (later_size good at x.goes) (plain_leaf x.goes.good x.goes.among (later_loose good at x.goes x.loose) m i)
 
   -- a leaf of the index of which each block keeps what stays is one by then
   pub among_opened : (l : Leaf) → IsOneOf (leaves_of opened) l → IsOneOf leaves' l

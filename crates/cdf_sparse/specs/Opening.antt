@@ -8,7 +8,7 @@ use Rattle.cdf_edits.specs.Commands.PutSteps.{BlockWritten, Goes}
 use Rattle.cdf_edits.specs.Commands.Room.{widest}
 use Rattle.cdf_edits.specs.Index.Blocks.{record_length, shared}
 use Rattle.cdf_edits.specs.Index.Cut.{CutsIndex, IsPart}
-use Rattle.cdf_edits.specs.Index.CutTwice.{part_bytes}
+use Rattle.cdf_edits.specs.Index.Cut.{part_bytes}
 use Rattle.cdf_edits.specs.Index.Grown.{cut_nodes, index_cut_open, kept_open, new_room, split_off, with_leaf}
 use Rattle.cdf_edits.specs.Index.Written.{block_need, is_taken_at}
 use Rattle.cdf_edits.specs.Space.Acts.{Act, gave}
@@ -16,7 +16,7 @@ use Rattle.cdf_format.specs.Content.{variable_of}
 use Rattle.cdf_format.specs.Fields.{number, size_at}
 use Rattle.cdf_format.specs.Index.{Leaf, Nodes, leaf, leaves_of}
 use Rattle.cdf_format.specs.Records.{linked_size, vdr_max_rec, vvr_bytes, vvr_place, vxr_bytes}
-use Rattle.cdf_format.specs.Shape.{VariableShape}
+use Rattle.cdf_format.specs.Shape.{VariableShape, is_compressed}
 use Rattle.cdf_format.specs.VariableFields.{record_bytes}
 use Rattle.cdf_index.specs.Adding.{leaf_acts}
 use Rattle.cdf_index.specs.Order.{leaf_of}
@@ -91,6 +91,7 @@ pub record PartTaken (b now : List ℕ) (v : Variable) (vdr : ℕ) (acts : List 
 
 -- An image goes on to one in which the variable has another index, of which these records are gone, by acts that free and then these that take; a block that loses no record keeps every byte, and MaxRec and rMaxRec are as they were.
 pub record RecordsOpened (b now : List ℕ) (kind : Kind) (before : List VariableShape) (own own' : VariableShape) (after : List VariableShape) (first last : ℕ) (takes : List Act) : Type 0 where
+  pub loose : is_compressed b own.vdr ≡ false
   pub goes : GoesOn b now kind before own own' after (opening_acts b own first last takes)
   pub divided : NoneDivided own first last own'.index takes ⊎ OneDivided b own first last own'.index takes
   pub cuts : (v : Variable) → record_length v ≡ record_bytes b own.vdr → CutsIndex v (kept_open first last) own.index (index_cut_open first last own.index) own'.index (opening_acts b own first last takes)

@@ -1,6 +1,6 @@
 //! Records cut out of the index of a variable and out of its blocks, where later ones keep their numbers.
 
-ghost use Rattle.std.specs.Prelude.{◌≡◌, ◌<◌, ◌≤◌, ◌+◌, ◌-◌, ◌*◌, ◌++◌, List, length, replicate, Some, IfOk, OnOk};
+ghost use Rattle.std.specs.Prelude.{◌≡◌, ◌<◌, ◌≤◌, ◌+◌, ◌-◌, ◌*◌, ◌++◌, List, length, replicate, Some, IfOk, OnOk, false};
 ghost use Rattle.cdf_area.specs.Calls.{Edits, Reads};
 ghost use Rattle.cdf_edits.proofs.Edits.VdrEdited.{StandsAmong};
 ghost use Rattle.cdf_edits.specs.Commands.Room.{widest};
@@ -9,7 +9,7 @@ ghost use Rattle.cdf_format.specs.Fields.{number};
 ghost use Rattle.cdf_format.specs.Index.{leaves_of};
 ghost use Rattle.cdf_format.specs.Records.{vdr_vxr_head, vvr_place, vxr_bytes};
 ghost use Rattle.cdf_format.specs.RecordTypes.{vvr_type};
-ghost use Rattle.cdf_format.specs.Shape.{VariableShape, shape, variables, vdrs};
+ghost use Rattle.cdf_format.specs.Shape.{VariableShape, shape, variables, vdrs, is_compressed};
 ghost use Rattle.cdf_format.specs.Tiles.{In};
 ghost use Rattle.cdf_format.specs.VariableFields.{record_bytes};
 ghost use Rattle.cdf_format.specs.WellFormed.{Good};
@@ -124,6 +124,7 @@ fn divide_leaf<A: Area>(
 ) -> Result<(), AreaError>
     requires good { Good (A.image area.old) }
     requires vdr { In vdr (vdrs (variables (shape (A.image area.old)))) }
+    requires unpacked { is_compressed (A.image area.old) vdr ≡ false }
     requires size { rec_bytes ≡ record_bytes (A.image area.old) vdr }
     requires order { first ≤ last }
     requires leaf { IsLater last (leaves_of (index_at (A.image area.old) (number (A.image area.old) vdr vdr_vxr_head))) (Some leaf.now) }
@@ -158,6 +159,7 @@ pub fn open_records<A: Area>(
 ) -> Result<(), AreaError>
     requires good { Good (A.image area.old) }
     requires vdr { In vdr (vdrs (variables (shape (A.image area.old)))) }
+    requires unpacked { is_compressed (A.image area.old) vdr ≡ false }
     requires size { rec_bytes ≡ record_bytes (A.image area.old) vdr }
     requires order { first ≤ last }
     requires room { length (A.image area.old) + opening_room first last rec_bytes (index_at (A.image area.old) (number (A.image area.old) vdr vdr_vxr_head)) ≤ (A.frame area.old).limit }

@@ -1,5 +1,5 @@
 -- A dump or a report that a line asks for was written.
-use Rattle.cdf_tool.proofs.Common.{Appends, Asks, GathersReply, IsAnswer, List, Outlets, Parsed, Status, StopsAt, StopsReply, Tap, Turns, WrotePart, [], ap, content, dump_text, false, framed, has_tap, left_after, line_of, parse, refl, subst, sym, told, transport, true, ℕ, ◌++◌, ◌∙◌, ◌≡◌}
+use Rattle.cdf_tool.proofs.Common.{Appends, Asks, GathersReply, IsAnswer, List, Outlets, Parsed, Status, StopsAt, StopsReply, Turns, WrotePart, [], ap, content, dump_text, false, framed, has_tap, left_after, line_of, parse, refl, subst, sym, told, transport, true, ℕ, ◌++◌, ◌∙◌, ◌≡◌}
 use Rattle.cdf_lines.specs.declared.line.Line.{Line}
 use Rattle.cdf_model.specs.declared.command.Command.TheVariants.{Dump, Report}
 use Rattle.cdf_tool.specs.declared.replay.Answer.{Answer}

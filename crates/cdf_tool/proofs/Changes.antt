@@ -1,11 +1,12 @@
 -- What a run wrote of the file under the name.
-use Rattle.cdf_tool.proofs.Common.{Asked, Bool, Differs, Disk, EndsNamed, Good, IfSome, IsChanged, IsDone, IsRewritten, KeptBy, List, None, Option, Outlets, Runs, Some, Status, StoredBy, Touches, ap, arith, false, file_in, found_or_made, image_of, inl, inr, length, length-append, lookup, refl, sealed, subst, sym, touches_none, touches_weaker, trailer, true, ℕ, ◌<◌, ◌∙◌, ◌≡◌, ◌≤◌}
+use Rattle.cdf_tool.proofs.Common.{Asked, Bool, Differs, Disk, EndsNamed, IfSome, IsChanged, IsDone, IsRewritten, KeptBy, List, None, Option, Outlets, Runs, Some, Status, StoredBy, Touches, ap, arith, false, file_in, found_or_made, image_of, inl, inr, length, length-append, lookup, refl, sealed, subst, sym, touches_none, touches_weaker, trailer, true, ℕ, ◌<◌, ◌∙◌, ◌≡◌, ◌≤◌, WellFormed}
 use Rattle.std.proofs.Math.ListN.{get_or-append}
 use Rattle.std.proofs.Math.Seq.{take-append_seam}
 use Rattle.cdf_saving.specs.declared.status.Status.TheVariants as statuses
 use Rattle.cdf_tool.proofs.AskedLemmas.{if_some}
 use Rattle.cdf_tool.proofs.Headline.{unread_not_done, without_not_done}
 use Rattle.cdf_tool.proofs.StoredLemmas.{front_is_image}
+use Rattle.cdf_format.proofs.FormatKept.{keeps}
 
 -- ---- an image as it is saved
 
@@ -20,10 +21,10 @@ differs_sealed file end number x =
       other = λ short same. x.other short (same ∙ get_or-append end (trailer end) 0 x.at inside);
     }
 
-image_is : (end : List ℕ) → Good end → end ≡ image_of (sealed end)
-image_is end good = front_is_image (sealed end) end good good (sym (take-append_seam end (trailer end)))
+image_is : (end : List ℕ) → WellFormed (sealed end) → end ≡ image_of (sealed end)
+image_is end good = front_is_image (sealed end) end good (keeps (sealed end) good) (sym (take-append_seam end (trailer end)))
 
-is_changed : (file end : List ℕ) → Good end → (range : ℕ × ℕ) → IsRewritten file end range → IsChanged file (sealed end) range
+is_changed : (file end : List ℕ) → WellFormed (sealed end) → (range : ℕ × ℕ) → IsRewritten file end range → IsChanged file (sealed end) range
 is_changed file end good range (inl page) = inl (page.0, differs_sealed file end page.0 page.1, page.2)
 is_changed file end good range (inr tail) = inr (subst (λ (l : List ℕ). length l ≤ range.0) (image_is end good) tail.0, tail.1)
 

@@ -1,5 +1,5 @@
 -- How a run of a named file ends.
-use Rattle.cdf_tool.proofs.Common.{Asked, Attached, Bool, Disk, EndsAttached, EndsInMemory, EndsNamed, EndsOver, EndsSaving, EndsStored, Err, FinishesWith, Good, HaltsWith, IfIdle, IfOk, IsDone, IsLeft, IsUnmoved, Kept, Left, List, Ok, OnOk, Opens, Option, Outlets, Refusals, Result, Runs, SpoilsTo, Status, StoredBy, TellsLeft, [], ap, false, file_in, file_of, image_limit, image_of, inl, inr, line_idles, refl, sealed, status_from, status_of, subst, sym, transport, true, was_refused, ℕ, ◌∙◌, ◌≡◌, ◌≢◌}
+use Rattle.cdf_tool.proofs.Common.{Asked, Attached, Bool, Disk, EndsAttached, EndsInMemory, EndsNamed, EndsOver, EndsSaving, EndsStored, Err, FinishesWith, HaltsWith, IfIdle, IfOk, IsDone, IsLeft, IsUnmoved, Kept, Left, List, Ok, OnOk, Opens, Option, Outlets, Refusals, Result, Runs, SpoilsTo, Status, StoredBy, TellsLeft, [], ap, false, file_in, file_of, image_limit, image_of, inl, inr, line_idles, refl, sealed, status_from, status_of, subst, sym, transport, true, was_refused, ℕ, ◌∙◌, ◌≡◌, ◌≢◌, WellFormed}
 use Rattle.cdf_saving.specs.declared.status.Status.TheVariants as statuses
 use Rattle.std.specs.Prelude.{IfErr}
 use Rattle.cdf_tool.proofs.AreaLemmas.{over_file}
@@ -49,21 +49,21 @@ module _ {U : Type 0} (new check no_save space : Bool) (name file : List ℕ) (d
   stopped_ends end status same idle (inl (none, taps, ends)) = inr (inl (taps, record { file = file; kept = same; none_read = none; ends = ends }))
   stopped_ends end status same idle (inr h) = inr (inr (record { file = file; image = h.image; opens = h.opens; runs = halted_runs h.image status same h.halts; idle = idle h.image h.opens }))
 
-  completed_runs : (image end : List ℕ) (refused : Bool) → Good end → FinishesWith space image_limit image before left first end refused now → StoredBy no_save asked file end d d' → Runs asked file image d d' before left first now (status_of refused)
-  completed_runs image end true good f stored = record { end = end; finishes = f; good = good; stored = stored }
-  completed_runs image end false good f stored = record { end = end; finishes = f; good = good; stored = stored }
+  completed_runs : (image end : List ℕ) (refused : Bool) → WellFormed (sealed end) → FinishesWith space image_limit image before left first end refused now → StoredBy no_save asked file end d d' → Runs asked file image d d' before left first now (status_of refused)
+  completed_runs image end true good f stored = record { end = end; finishes = f; well_formed = good; stored = stored }
+  completed_runs image end false good f stored = record { end = end; finishes = f; well_formed = good; stored = stored }
 
-  unsaved_ends : (end : List ℕ) (refusals : Refusals) (status : Status) → no_save ≡ true → Kept asked file d d' → Idles status → Good end → EndsOver new space file before left first now end (Ok refusals) → status ≡ status_of (was_refused refusals) → EndsNamed asked d d' before left first now status
+  unsaved_ends : (end : List ℕ) (refusals : Refusals) (status : Status) → no_save ≡ true → Kept asked file d d' → Idles status → WellFormed (sealed end) → EndsOver new space file before left first now end (Ok refusals) → status ≡ status_of (was_refused refusals) → EndsNamed asked d d' before left first now status
   unsaved_ends end refusals status asks same idle good f is =
       let stored : StoredBy no_save asked file end d d' = subst (λ (s : Bool). StoredBy s asked file end d d') (sym asks) same in
       inr (inr (record { file = file; image = f.image; opens = f.opens; runs = subst (λ (s : Status). Runs asked file f.image d d' before left first now s) (sym is) (completed_runs f.image end (was_refused refusals) good f.finishes stored); idle = idle f.image f.opens }))
 
   module _ (at : Disk U) (attached : Attached asked file d at) (saves : new ≡ true → no_save ≡ false) where
-    saved_runs : (image end : List ℕ) (refused : Bool) (status : Status) → no_save ≡ false → Good end → FinishesWith space image_limit image before left first end refused now → EndsSaving refused end at d' status → Runs asked file image d d' before left first now status
+    saved_runs : (image end : List ℕ) (refused : Bool) (status : Status) → no_save ≡ false → WellFormed (sealed end) → FinishesWith space image_limit image before left first end refused now → EndsSaving refused end at d' status → Runs asked file image d d' before left first now status
     saved_runs image end refused statuses.Done asks good f (is, holds, written) =
-        record { end = end; finishes = subst (λ (r : Bool). FinishesWith space image_limit image before left first end r now) is f; good = good; stored = subst (λ (s : Bool). StoredBy s asked file end d d') (sym asks) (good, replaced new check no_save space name file d at d' _ attached holds, rewritten new check no_save space name file d at d' end attached written) }
+        record { end = end; finishes = subst (λ (r : Bool). FinishesWith space image_limit image before left first end r now) is f; well_formed = good; stored = subst (λ (s : Bool). StoredBy s asked file end d d') (sym asks) (good, replaced new check no_save space name file d at d' _ attached holds, rewritten new check no_save space name file d at d' end attached written) }
     saved_runs image end refused statuses.SomeRefused asks good f (is, holds, written) =
-        record { end = end; finishes = subst (λ (r : Bool). FinishesWith space image_limit image before left first end r now) is f; good = good; stored = subst (λ (s : Bool). StoredBy s asked file end d d') (sym asks) (good, replaced new check no_save space name file d at d' _ attached holds, rewritten new check no_save space name file d at d' end attached written) }
+        record { end = end; finishes = subst (λ (r : Bool). FinishesWith space image_limit image before left first end r now) is f; well_formed = good; stored = subst (λ (s : Bool). StoredBy s asked file end d d') (sym asks) (good, replaced new check no_save space name file d at d' _ attached holds, rewritten new check no_save space name file d at d' end attached written) }
     saved_runs image end refused statuses.StoreWriteFault asks good f (holds, written) =
         record { end = end; refused = refused; finishes = f; spoiled = spoiled new check no_save space name file d at d' end asks attached holds written }
     saved_runs image end refused statuses.NoMemory asks good f same = (kept new check no_save space name file d at d' saves attached same, inr (inr (record { end = end; refused = refused; finishes = f; stops = tt })))
@@ -76,7 +76,7 @@ module _ {U : Type 0} (new check no_save space : Bool) (name file : List ℕ) (d
     saved_runs image end refused statuses.ScriptFault asks good f ends = absurd ends
     saved_runs image end refused statuses.ScriptTooLong asks good f ends = absurd ends
 
-    stored_ends : (end : List ℕ) (outcome : Result Refusals Status) (status : Status) (save : Bool) → no_save ≡ save → Idles status → IfOk outcome (λ _. Good end) → EndsOver new space file before left first now end outcome → EndsStored save end at d' outcome status → EndsNamed asked d d' before left first now status
+    stored_ends : (end : List ℕ) (outcome : Result Refusals Status) (status : Status) (save : Bool) → no_save ≡ save → Idles status → IfOk outcome (λ _. WellFormed (sealed end)) → EndsOver new space file before left first now end outcome → EndsStored save end at d' outcome status → EndsNamed asked d d' before left first now status
     stored_ends end (Err stopped) status save asks idle good over (is, same) =
         subst (λ (s : Status). EndsNamed asked d d' before left first now s) (sym is)
         (stopped_ends end stopped (kept new check no_save space name file d at d' saves attached same) (subst (λ (s : Status). Idles s) is idle) over)
@@ -102,7 +102,7 @@ module _ {U : Type 0} (new check no_save space : Bool) (name file : List ℕ) (d
 
     -- a run over the file that is attached
     pub attached_ends : (what : Option Left) (status : Status) → EndsAttached new no_save space file at d' before left first now what status → EndsNamed asked d d' before left first now status
-    attached_ends what status e = stored_ends e.end e.outcome status no_save refl (idles status e.idle) e.good e.over e.stored
+    attached_ends what status e = stored_ends e.end e.outcome status no_save refl (idles status e.idle) e.well_formed e.over e.stored
 
     -- the saving failed
     done_no_six : (refused : Bool) → statuses.StoreWriteFault ≡ status_of refused → ⊥
@@ -126,7 +126,7 @@ module _ {U : Type 0} (new check no_save space : Bool) (name file : List ℕ) (d
         spoils_by what e.end e.outcome no_save refl e.over (subst (λ (s : Status). EndsStored no_save e.end at d' e.outcome s) is e.stored)
         (subst (λ (s : Status). TellsLeft what (file_of at) (sealed e.end) (file_of d') s) is e.leaves)
 
-in_memory : {U : Type 0} (check space : Bool) (name : List ℕ) (d : Disk U) (before left : Option (List ℕ)) (first now : Outlets) (end : List ℕ) (outcome : Result Refusals Status) (status : Status) → EndsOver true space [] before left first now end outcome → IfOk outcome (λ _. Good end) → status ≡ status_from outcome
+in_memory : {U : Type 0} (check space : Bool) (name : List ℕ) (d : Disk U) (before left : Option (List ℕ)) (first now : Outlets) (end : List ℕ) (outcome : Result Refusals Status) (status : Status) → EndsOver true space [] before left first now end outcome → IfOk outcome (λ _. WellFormed (sealed end)) → status ≡ status_from outcome
     → EndsNamed (record { new = true; check = check; no_save = true; space = space; name = name }) d d before left first now status
 in_memory check space name d before left first now end (Ok refusals) status over good is =
     unsaved_ends true check true space name [] d d before left first now end refusals status refl refl (λ image opens old. absurd (cc old)) good over is
@@ -138,18 +138,18 @@ in_memory {U} check space name d before left first now end (Err stopped) status 
 pub in_memory_ends : {U : Type 0} (new check no_save space : Bool) (name : List ℕ) (d : Disk U) (before left : Option (List ℕ)) (first now : Outlets) (status : Status) → new ≡ true → no_save ≡ true → EndsInMemory space before left first now status
     → EndsNamed (record { new = new; check = check; no_save = no_save; space = space; name = name }) d d before left first now status
 in_memory_ends new check no_save space name d before left first now status n s e =
-    let made = in_memory check space name d before left first now e.end e.outcome status e.over e.good e.status_is in
+    let made = in_memory check space name d before left first now e.end e.outcome status e.over e.well_formed e.status_is in
     transport (λ i. EndsNamed (record { new = sym n i; check = check; no_save = sym s i; space = space; name = name }) d d before left first now status) made
 
 -- what a run over an area and a saving come to
 pub attached_all : {U : Type 0} (new no_save space : Bool) (file held : List ℕ) (d at d' : Disk U) (before left : Option (List ℕ)) (first now : Outlets) (end : List ℕ) (outcome : Result Refusals Status) (what : Option Left) (status : Status)
-    → (new ≡ false → held ≡ file) → EndsOver new space held before left first now end outcome → IfOk outcome (λ _. Good end) → at ≡ d → EndsStored no_save end at d' outcome status → TellsLeft what (file_of at) (sealed end) (file_of d') status
+    → (new ≡ false → held ≡ file) → EndsOver new space held before left first now end outcome → IfOk outcome (λ _. WellFormed (sealed end)) → at ≡ d → EndsStored no_save end at d' outcome status → TellsLeft what (file_of at) (sealed end) (file_of d') status
     → (P S : Type 0) → (new ≡ false → P → S) → (new ≡ false → OnOk outcome (IfIdle image_limit (image_of held) before P)) → (new ≡ false → OnOk outcome S → (d' ≡ at) × (status ≢ statuses.StoreWriteFault)) → EndsAttached new no_save space file d d' before left first now what status
 attached_all {U} new no_save space file held d at d' before left first now end outcome what status same over good is stored leaves P S kept idle unmoved = record {
   end = end;
   outcome = outcome;
   over = over_file space before left first now end new held file outcome same over;
-  good = good;
+  well_formed = good;
   stored = subst (λ (x : Disk U). EndsStored no_save end x d' outcome status) is stored;
   leaves = subst (λ (x : Disk U). TellsLeft what (file_of x) (sealed end) (file_of d') status) is leaves;
   idle = λ old. transport (λ i. IfIdle image_limit (image_of (same old i)) before ((d' ≡ is i) × (status ≢ statuses.StoreWriteFault)))

@@ -67,7 +67,7 @@ module _ {U : Type 0} (a : Asked) (file image : List ℕ) (d d' : Disk U) (scrip
     replies = appended written f.replies.text (last_line a.space c.end) c.finishes.then.written now.written (subst (λ (w : Option (List ℕ)). Appends w c.finishes.then.written f.replies.text) tells f.replies.written) c.finishes.line
         ∙ ap (λ (t : List ℕ). Some (written ++ (t ++ last_line a.space c.end))) (g.text_is ∙ ap (λ (s : State). s.text) (sym run));
     refused = so;
-    good = c.good;
+    well_formed = c.well_formed;
     means = means;
     taps_left = c.finishes.taps ∙ g.taps_are ∙ ap (λ (s : State). s.taps) (sym run);
     stored = c.stored;

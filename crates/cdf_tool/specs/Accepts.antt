@@ -5,7 +5,7 @@ use Rattle.cdf_store.specs.Disk.{Disk}
 use Rattle.cdf_format.specs.Content.{content}
 use Rattle.cdf_session.specs.History.{History}
 use Rattle.cdf_model.specs.Limits.{image_limit, script_limit}
-use Rattle.cdf_format.specs.WellFormed.{Good}
+use Rattle.cdf_format.specs.WellFormed.{WellFormed}
 use Rattle.cdf_model.specs.Lines.{lines}
 use Rattle.cdf_model.specs.Taps.{Tap}
 use Rattle.cdf_session.specs.Run.{flagged, run_of}
@@ -18,8 +18,9 @@ use Rattle.cdf_tool.specs.Idle.{IsUnmoved, all_idle}
 use Rattle.cdf_tool.specs.Outlets.{Outlets}
 use Rattle.cdf_tool.specs.Script.{last_line}
 use Rattle.cdf_tool.specs.Stored.{Stored}
+use Rattle.cdf_format.specs.Sealed.{sealed}
 
--- The file was opened, or a new one made. From its image the script led to another one, which was stored, and the text of the run over the data set with the taps was written, then the line on space where it is asked for, and nothing else. The last image is good, and means the data set that the run ends with, and the taps are left that it leaves. Where no line changed anything, nothing was written to the store.
+-- The file was opened, or a new one made. From its image the script led to another one, which was stored, and the text of the run over the data set with the taps was written, then the line on space where it is asked for, and nothing else. The last image is well formed once it is sealed, and means the data set that the run ends with, and the taps are left that it leaves. Where no line changed anything, nothing was written to the store.
 pub record Accepted {U : Type 0} (a : Asked) (d d' : Disk U) (script : List ℕ) (left : Option (List ℕ)) (written : List ℕ) (taps : List Tap) (now : Outlets) (status : Status) : Type 0 where
   pub file : List ℕ
   pub image : List ℕ
@@ -31,7 +32,7 @@ pub record Accepted {U : Type 0} (a : Asked) (d d' : Disk U) (script : List ℕ)
   pub read : left ≡ Some []
   pub replies : now.written ≡ Some (written ++ ((run_of (content image) taps script full).text ++ last_line a.space end))
   pub refused : (status ≡ statuses.SomeRefused) ↔ ((run_of (content image) taps script full).refused ≡ true)
-  pub good : Good end
+  pub well_formed : WellFormed (sealed end)
   pub means : content end ≡ (run_of (content image) taps script full).data_set
   pub taps_left : now.taps ≡ (run_of (content image) taps script full).taps
   pub stored : Stored a file end d d'

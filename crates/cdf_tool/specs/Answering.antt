@@ -1,5 +1,5 @@
 -- What a line is answered (own).
-use Rattle.std.specs.Prelude.{◌≡◌, ℕ, List, [], Bool, true, is_some}
+use Rattle.std.specs.Prelude.{◌≡◌, ℕ, List, true, is_some}
 use Rattle.cdf_model.specs.declared.answer.Outcome.{Outcome}
 use Rattle.cdf_model.specs.declared.command.Command.{Command}
 use Rattle.cdf_model.specs.declared.command.Command.TheVariants as commands

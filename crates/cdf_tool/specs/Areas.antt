@@ -3,7 +3,7 @@ use Rattle.std.specs.Prelude.{Bool, Err, IfOk, List, Ok, [], false, true, ℕ, �
 use Rattle.std.specs.declared.option.Option.{Option}
 use Rattle.std.specs.declared.result.Result.{Result}
 use Rattle.cdf_format.specs.Sealed.{image_of, sealed}
-use Rattle.cdf_format.specs.WellFormed.{Good}
+use Rattle.cdf_format.specs.WellFormed.{WellFormed}
 use Rattle.cdf_model.specs.Limits.{image_limit}
 use Rattle.cdf_session.specs.Sessions.{IsNoVerdict}
 use Rattle.cdf_session.specs.Sessions.{Rejects as RejectedFor}
@@ -54,7 +54,7 @@ pub record EndsAttached {U : Type 0} (new no_save space : Bool) (file : List ℕ
   pub end : List ℕ
   pub outcome : Result Refusals Status
   pub over : EndsOver new space file before left first now end outcome
-  pub good : IfOk outcome (λ _. Good end)
+  pub well_formed : IfOk outcome (λ _. WellFormed (sealed end))
   pub stored : EndsStored no_save end d d' outcome status
   pub leaves : TellsLeft what (file_of d) (sealed end) (file_of d') status
   pub idle : new ≡ false → IfIdle image_limit (image_of file) before ((d' ≡ d) × (status ≢ statuses.StoreWriteFault))
@@ -68,5 +68,5 @@ pub record EndsInMemory (space : Bool) (before left : Option (List ℕ)) (first 
   pub end : List ℕ
   pub outcome : Result Refusals Status
   pub over : EndsOver true space [] before left first now end outcome
-  pub good : IfOk outcome (λ _. Good end)
+  pub well_formed : IfOk outcome (λ _. WellFormed (sealed end))
   pub status_is : status ≡ status_from outcome

@@ -7,7 +7,7 @@ use Rattle.cdf_store.specs.Named.{lookup}
 use Rattle.cdf_store.specs.Written.{AppendsFront}
 use Rattle.cdf_format.specs.NewFile.{new_image}
 use Rattle.cdf_format.specs.Sealed.{image_of, sealed}
-use Rattle.cdf_format.specs.WellFormed.{Good, WellFormed}
+use Rattle.cdf_format.specs.WellFormed.{WellFormed}
 use Rattle.cdf_model.specs.Limits.{image_limit}
 use Rattle.cdf_model.specs.Texts.{no_file_text}
 use Rattle.cdf_saving.specs.Saved.{IsLeft}
@@ -32,7 +32,7 @@ Opens false file image = WellFormed file × (image ≡ image_of file)
 pub record Completes {U : Type 0} (a : Asked) (file image : List ℕ) (d d' : Disk U) (before left : Option (List ℕ)) (first now : Outlets) (refused : Bool) : Type 0 where
   pub end : List ℕ
   pub finishes : FinishesWith a.space image_limit image before left first end refused now
-  pub good : Good end
+  pub well_formed : WellFormed (sealed end)
   pub stored : Stored a file end d d'
 
 -- it was run to its end, and the saving failed

@@ -6,7 +6,7 @@ use Rattle.cdf_store.specs.Disk.{Disk}
 use Rattle.cdf_store.specs.Named.{files_attached, found_or_made, lookup, with_file}
 use Rattle.cdf_pages.specs.Saving.{Differs, IsBetween, LiesIn}
 use Rattle.cdf_format.specs.Sealed.{image_of, sealed}
-use Rattle.cdf_format.specs.WellFormed.{Good}
+use Rattle.cdf_format.specs.WellFormed.{WellFormed}
 use Rattle.cdf_words.specs.Asking.{Asked}
 use Rattle.cdf_saving.specs.Saved.{Rewrites}
 
@@ -58,7 +58,7 @@ IsChanged old now range = ((number : ℕ) × Differs old now number × LiesIn nu
 -- the image is saved, unless that is not asked for
 abbrev pub StoredBy : {U : Type 0} → Bool → Asked → List ℕ → List ℕ → Disk U → Disk U → Type 0
 StoredBy true a file end d d' = Kept a file d d'
-StoredBy false a file end d d' = Good end × Replaced a file (sealed end) d d' × Rewrites file end d d'
+StoredBy false a file end d d' = WellFormed (sealed end) × Replaced a file (sealed end) d d' × Rewrites file end d d'
 
 abbrev pub Stored : {U : Type 0} → Asked → List ℕ → List ℕ → Disk U → Disk U → Type 0
 Stored a file end d d' = StoredBy a.no_save a file end d d'

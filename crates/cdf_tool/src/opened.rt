@@ -1,8 +1,8 @@
 //! The file in an area is opened, and the script is run over it.
 
 ghost use Rattle.std.specs.Prelude.{◌≡◌, ◌≢◌, ◌≤◌, ℕ, List, [], Bool, length, map, true, false, IfOk, IfErr, IfSome, OnOk, None};
-ghost use Rattle.cdf_format.specs.Sealed.{image_of};
-ghost use Rattle.cdf_format.specs.WellFormed.{Good};
+ghost use Rattle.cdf_format.specs.Sealed.{image_of, sealed};
+ghost use Rattle.cdf_format.specs.WellFormed.{Good, WellFormed};
 ghost use Rattle.cdf_model.specs.Limits.{image_limit};
 ghost use Rattle.cdf_session.specs.Sessions.{Begins, Explains};
 ghost use Rattle.cdf_saving.specs.Counts.{Counted, CountedIn, counts};
@@ -104,6 +104,7 @@ pub fn run_area<A: Area, I: Source, O: Sink>(
     ensures ends { EndsOver new space (A.image area) (I.left script.old) (I.left script.new) (with_taps (O.written out.old) (map (λ tap. meaning tap) taps.old.items)) (with_taps (O.written out.new) (map (λ tap. meaning tap) taps.new.items)) (A.image result.area) result.outcome }
     ensures told { Tells result.broken (old_file new (A.image area)) (O.written out.old) (O.written out.new) (status_from result.outcome) }
     ensures good { IfOk result.outcome (λ _. Good (A.image result.area)) }
+    ensures well_formed { IfOk result.outcome (λ _. WellFormed (sealed (A.image result.area))) }
     ensures fits { IfOk result.outcome (λ _. length (A.image result.area) ≤ image_limit) }
     ensures unedited { new ≡ false → OnOk result.outcome (IfIdle image_limit (image_of (A.image area)) (I.left script.old) (A.edited result.area ≡ A.edited area)) }
     ensures frame { A.frame result.area ≡ A.frame area }

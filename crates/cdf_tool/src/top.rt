@@ -49,8 +49,8 @@ pub fn run<S: Store, I: Source, O: Sink>(
     // Over devices that tell their bytes: with status 0 or 1, and without `--check`, the file is well formed, or a new one was made, and there are a last image
     // and a flag for each line, so that the script leads from the first image to the last one, what was written is the text of the run
     // over the data set of the first and the taps, and nothing else, the last image is stored, the script was read to its end, and the status
-    // is 1 exactly where that run refuses a line. The last image is good, and means the data set that the run ends with, and those taps
-    // are left that the run leaves. Where no line changed anything, nothing was written to the store.
+    // is 1 exactly where that run refuses a line. The last image is well formed once it is sealed, and means the data set that the run
+    // ends with, and those taps are left that the run leaves. Where no line changed anything, nothing was written to the store.
     ensures accepted { Accepts (ask (map string_bytes words.now)) (S.disk store) (S.disk result.store) (I.left script.old) (I.left script.new) (with_taps (O.written out.old) (map (λ tap. meaning tap) taps.old.items)) (with_taps (O.written out.new) (map (λ tap. meaning tap) taps.new.items)) result.status }
 
     // With `--check` status 0 comes exactly where the file that was read is well formed; then `yes` is written, and the line on space

@@ -1,6 +1,6 @@
 -- Records cut at the end of an index of which no node is empty, where each block begins before them: what an image has is what the cut leaves, if no more than the last entry was written.
 use Rattle.cdf_cuts.proofs.Common.{Changed, Each, Entries, In, In-append, Kept, Leaf, List, MayRewrite, NodeFits, Nodes, None, Option, Rewrite, SaysEntry, Some, StillSays, Touch, Touched, [], ap, arith, block, cases_eq, flat_map, freed_of, if◌then◌else◌, image_limit, inl, inr, is_linkable, leaves_of, length, link_to, linkable-type, lower, lower_nodes, no_entry, no_node, node, nodes_of, number, plan_of, refl, relinked, rewrite_places, rewrite_touches, rewritten, room_at, size_at, stands_in, subst, suc, sym, tile_lies, touched, touched_field, true, type_at, used_count, vxr_n_used_entries, vxr_type, whole_in, ℕ, ◌*◌, ◌++◌, ◌+◌, ◌-◌, ◌<◌, ◌∙◌, ◌∷◌, ◌≡◌, ◌≢◌, ◌≤◌, ◌⊎◌, last_or, link_touches}
-use Rattle.std.specs.Prelude.{Bool, max}
+use Rattle.std.specs.Prelude.{Bool, false, max}
 use Rattle.cdf_edits.proofs.Common.{Edit, Good, Hold, Hold-split, Kind, Mark, VariableShape, field, has_room, leaf_rows, negsuc, pos, shape, vdr_vxr_head, vdr_vxr_tail, vvr_type, word_kept, ℤ, end_of, number_before, with_sign}
 unfoldable use Rattle.cdf_edits.proofs.Common.{nodes_rows, used_rows}
 use Rattle.cdf_edits.proofs.Edits.Common.{StandsAmong, behind_in, fits, has, in-times, long, some_bytes, sound, through, tile, times-in, typed}
@@ -17,7 +17,6 @@ use Rattle.cdf_index.proofs.NewIndex.{index_marks, vdr_no_node}
 use Rattle.cdf_index.proofs.OneNode.{same_node}
 use Rattle.cdf_index.specs.Adding.{Counts}
 use Rattle.cdf_index.specs.Writing.{EntrySet}
-use Rattle.cdf_edits.proofs.Edits.StandsAmong.{loose}
 use Rattle.cdf_cuts.proofs.CutDone.{each_from, may_all}
 use Rattle.cdf_cuts.proofs.CutWords.{cut}
 use Rattle.cdf_cuts.proofs.PastCut.{cut_past}
@@ -30,6 +29,7 @@ use Rattle.cdf_puts.specs.TidyIndex.{IsTidy}
 use Rattle.cdf_trim.proofs.EndPlan.{EndsWritten, IsDone, OnlyReach, SameFields, each_done, none_freed, plan_done}
 use Rattle.cdf_trim.proofs.EndReach.{At, Ends, none_reaches, only_reaches}
 use Rattle.cdf_trim.proofs.EndShape.{Begins, cut_ended, ended, link_ended, nodes_ended, whole_kept}
+use Rattle.cdf_format.specs.Shape.{is_compressed}
 
 -- ---- the blocks
 
@@ -89,7 +89,7 @@ outside_node b records (r ∷ rs) m i may (inl q) o =
     elim o.0 [ inl x ↦ inl (omega (arith, x, q)) | inr x ↦ inr (omega (arith, x, q, room)) ]
 outside_node b records (r ∷ rs) m i may (inr k) o = outside_node b records rs m i may.1 k o.1
 
-module _ {b : List ℕ} {kind : Kind} {before : List VariableShape} {own : VariableShape} {after : List VariableShape} (good : Good b) (at : StandsAmong b kind before own after) (short : length b ≤ image_limit) (tidy : IsTidy own.index) where
+module _ {b : List ℕ} {kind : Kind} {before : List VariableShape} {own : VariableShape} {after : List VariableShape} (good : Good b) (at : StandsAmong b kind before own after) (short : length b ≤ image_limit) (tidy : IsTidy own.index) (loose : is_compressed b own.vdr ≡ false) where
   abbrev records : List ℕ
   records = (shape b).records
 
@@ -164,7 +164,7 @@ module _ {b : List ℕ} {kind : Kind} {before : List VariableShape} {own : Varia
         record { linked = now; is_linked = ended_linked; given = subst (AllGiven now now) (sym is) refl }
 
     pub ended_past : CutPast b now kind before own (cut_off own first) after first
-    ended_past = cut_past good at short ended_cut
+    ended_past = cut_past good at short ended_cut loose
 
   -- ---- nothing is written
 
@@ -193,7 +193,7 @@ module _ {b : List ℕ} {kind : Kind} {before : List VariableShape} {own : Varia
     -- a block is no node
     no_vxr : is_linkable b records vxr_type place ≡ true → ⊥
     no_vxr link =
-        let block_type : type_at b place ≡ vvr_type = (plain_leaf good at (loose good at) _ is_leaf).typed in
+        let block_type : type_at b place ≡ vvr_type = (plain_leaf good at loose _ is_leaf).typed in
         let q : vxr_type ≡ vvr_type = sym (linkable-type b records vxr_type place link) ∙ block_type in
         absurd (omega (arith, q))
 

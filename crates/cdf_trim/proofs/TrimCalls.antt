@@ -5,7 +5,7 @@ use Rattle.cdf_cuts.proofs.Rewriting.{inside_of}
 use Rattle.cdf_cuts.specs.Past.{CutPast, cut_off}
 use Rattle.cdf_edits.proofs.Edits.LeafPieces.{each_of}
 use Rattle.cdf_edits.proofs.Frame.OwnerAlone.{Each-in}
-use Rattle.cdf_format.specs.Shape.{Each}
+use Rattle.cdf_format.specs.Shape.{Each, is_compressed}
 use Rattle.cdf_index.proofs.LeavesAscend.{leaves_ascend}
 use Rattle.cdf_puts.specs.TidyIndex.{IsTidy}
 use Rattle.cdf_trim.proofs.EndCut.{end_cut, nothing_cut}
@@ -15,6 +15,7 @@ use Rattle.cdf_trim.specs.Trimming.{KeepsBlocks}
 use Rattle.cdf_trim.specs.declared.last_entry.LastEntry.{LastEntry}
 use Rattle.std.specs.List.{last_or}
 use Rattle.std.specs.Option.{unwrap_or}
+use Rattle.std.proofs.Common.{false}
 
 -- ---- the last leaf ends last
 
@@ -69,7 +70,10 @@ last_inside {b = b} {head = head} has {e = e} names =
 
 -- ---- what is left
 
-module _ {b : List ℕ} (good : Good b) {kind : Kind} {before : List VariableShape} {own : VariableShape} {after : List VariableShape} {vdr : ℕ} (among : StandsAmong b kind before own after) (is : own.vdr ≡ vdr) (short : length b ≤ image_limit) (tidy : IsTidy (index_at b (number b vdr vdr_vxr_head))) (first : ℕ) where
+module _ {b : List ℕ} (good : Good b) {kind : Kind} {before : List VariableShape} {own : VariableShape} {after : List VariableShape} {vdr : ℕ} (among : StandsAmong b kind before own after) (is : own.vdr ≡ vdr) (short : length b ≤ image_limit) (tidy : IsTidy (index_at b (number b vdr vdr_vxr_head))) (first : ℕ) (unpacked : is_compressed b vdr ≡ false) where
+  loose : is_compressed b own.vdr ≡ false
+  loose = ap (is_compressed b) is ∙ unpacked
+
   here : index_at b (number b vdr vdr_vxr_head) ≡ own.index
   here = (index_is b good among is).1
 
@@ -79,7 +83,7 @@ module _ {b : List ℕ} (good : Good b) {kind : Kind} {before : List VariableSha
   pub trims_none : leaves_of (index_at b (number b vdr vdr_vxr_head)) ≡ [] → CutPast b b kind before own (cut_off own first) after first
   trims_none none =
       let no : leaves_of own.index ≡ [] = ap (λ (ns : Nodes). leaves_of ns) (sym here) ∙ none in
-      nothing_cut good among short tidy_own first (λ l i. absurd (subst (λ (xs : List Leaf). IsOneOf xs l) no i))
+      nothing_cut good among short tidy_own loose first (λ l i. absurd (subst (λ (xs : List Leaf). IsOneOf xs l) no i))
 
   module _ (e : LastEntry) (names : NamesLast b (index_at b (number b vdr vdr_vxr_head)) e) where
     names_own : NamesLast b own.index e
@@ -88,7 +92,7 @@ module _ {b : List ℕ} (good : Good b) {kind : Kind} {before : List VariableSha
     pub trims_nothing : e.leaf.last < first → CutPast b b kind before own (cut_off own first) after first
     trims_nothing lt =
         let ascend = leaves_ascend 0 record_number_limit own.index (rw here at (index_is b good among is).0.order) (omega arith) in
-        nothing_cut good among short tidy_own first (λ l i. let le = ends_last 0 (suc record_number_limit) None (leaves_of own.index) _ ascend names_own.leaf_is l i in omega arith)
+        nothing_cut good among short tidy_own loose first (λ l i. let le = ends_last 0 (suc record_number_limit) None (leaves_of own.index) _ ascend names_own.leaf_is l i in omega arith)
 
     pub trims_end : {now : List ℕ} → e.leaf.first < first → first ≤ e.leaf.last → EntrySet b now e.node e.number e.leaf.first (first - 1) e.leaf.at → CutPast b now kind before own (cut_off own first) after first
-    trims_end lt le set = end_cut good among short tidy_own first e names_own lt le set
+    trims_end lt le set = end_cut good among short tidy_own loose first e names_own lt le set

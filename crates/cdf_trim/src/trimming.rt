@@ -1,12 +1,12 @@
 //! Records cut out at the end of an index of which no node is empty.
 
-ghost use Rattle.std.specs.Prelude.{◌≡◌, ◌≤◌, List, length, true, IfOk, OnOk};
+ghost use Rattle.std.specs.Prelude.{◌≡◌, ◌≤◌, List, length, true, IfOk, OnOk, false};
 ghost use Rattle.cdf_area.specs.Calls.{Edits};
 ghost use Rattle.cdf_cuts.specs.Past.{CutPast, cut_off};
 ghost use Rattle.cdf_edits.proofs.Edits.VdrEdited.{StandsAmong};
 ghost use Rattle.cdf_format.specs.Fields.{number};
 ghost use Rattle.cdf_format.specs.Records.{vdr_vxr_head};
-ghost use Rattle.cdf_format.specs.Shape.{VariableShape, shape, variables, vdrs};
+ghost use Rattle.cdf_format.specs.Shape.{VariableShape, shape, variables, vdrs, is_compressed};
 ghost use Rattle.cdf_format.specs.Tiles.{In};
 ghost use Rattle.cdf_format.specs.WellFormed.{Good};
 ghost use Rattle.cdf_index.specs.Finding.{index_at};
@@ -36,6 +36,7 @@ pub fn trim_past<A: Area>(
 ) -> Result<bool, AreaError>
     requires good { Good (A.image area.old) }
     requires vdr { In vdr (vdrs (variables (shape (A.image area.old)))) }
+    requires unpacked { is_compressed (A.image area.old) vdr ≡ false }
     requires start { IsKnownStart (A.image area.old) vdr known }
     requires tidy { IsTidy (index_at (A.image area.old) (number (A.image area.old) vdr vdr_vxr_head)) }
     requires short { length (A.image area.old) ≤ image_limit }

@@ -3,7 +3,7 @@ use Rattle.std.proofs.Common.{Bool, List, [], ap, append-nil, append_assoc, ap�
 use Rattle.std.proofs.Math.Seq.{drop-append_seam}
 use Rattle.std.proofs.lemmas.Bool.{and_from, ne_eqb}
 use Rattle.std.proofs.lemmas.Int.{to_z_pos}
-use Rattle.std.proofs.lemmas.List.{length-append, length-map, map-append}
+use Rattle.std.proofs.lemmas.List.{length-append, length-map}
 use Rattle.std.specs.Int.{cast_signed, w64}
 use Rattle.std.specs.List.{filter, flat_map, list_all}
 use Rattle.std.specs.Prelude.{if◌then◌else◌, ◌==◌}
@@ -11,14 +11,13 @@ use Rattle.cdf_model.specs.DataSet.{Attribute, DataSet}
 use Rattle.cdf_model.specs.Encodings.{encoding_at}
 use Rattle.cdf_model.specs.Limits.{image_limit, signed_limit}
 use Rattle.cdf_format.proofs.GoodByShape.{IsGoodByShape, attribute_shape_rows}
-use Rattle.cdf_format.proofs.GoodSound.{good_if_read}
 use Rattle.cdf_format.proofs.ImageOf.{flags_of_front, short_trailer, trailer_is}
 use Rattle.cdf_format.proofs.Members.{In-append_left, In-append_right, is_in-true}
 use Rattle.cdf_format.proofs.NameRules.{differ_by_names}
 use Rattle.cdf_format.proofs.Owning.{owned_is, times-once}
 use Rattle.cdf_format.proofs.RowLemmas.{Hold-append}
 use Rattle.cdf_format.proofs.SealedRules.{sealed_keeps}
-use Rattle.cdf_format.proofs.ShapeLemmas.{Each-append, content_is, shape_is}
+use Rattle.cdf_format.proofs.ShapeLemmas.{content_is, shape_is}
 use Rattle.cdf_format.proofs.Tests.{of_le}
 use Rattle.cdf_format.specs.AttributeRules.{same_name}
 use Rattle.cdf_format.specs.ChainRules.{adrs_rows, differ_rows, number_rows, r_vdrs_rows, z_vdrs_rows}
@@ -28,35 +27,28 @@ use Rattle.cdf_format.specs.Fields.{counted, encoding, eof, flags, gdr_offset, h
 use Rattle.cdf_format.specs.FileRules.{gdr_rows, has_gdr, is_gdr, is_record, phase3}
 use Rattle.cdf_format.specs.IndexRules.{index_rows}
 use Rattle.cdf_format.specs.NewFile.{magic}
-use Rattle.cdf_format.specs.NotRead.{unread_variables}
 use Rattle.cdf_format.specs.Owners.{attribute_records, bytes_in, owned_records, space_of, times, unused_records, variable_records}
 use Rattle.cdf_format.specs.Phases.{first_phases}
 use Rattle.cdf_format.specs.Records.{adr_name, gdr_eof, vdr_num}
 use Rattle.cdf_format.specs.RecordTypes.{cdr_type, fixed_size, gdr_type, is_record_type, r_vdr_type, uir_type, z_vdr_type}
 use Rattle.cdf_format.specs.Rules.{AllHold, Hold, asked}
 use Rattle.cdf_format.specs.Sealed.{has_checksum, sealed, trailer, trailer_length}
-use Rattle.cdf_format.specs.Shape.{Each, HasShape, HasVariable, AttributeShape, Shape, VariableShape, shape, variables, vdrs}
+use Rattle.cdf_format.specs.Shape.{Each, HasShape, HasVariable, AttributeShape, Shape, VariableShape, shape, vdrs}
 use Rattle.cdf_format.specs.Stored.{is_little}
 use Rattle.cdf_format.specs.Tiles.{AreTiles, Distinct, In}
 use Rattle.cdf_format.specs.VariableRules.{variable_rows}
-use Rattle.cdf_format.specs.WellFormed.{Good, KeepsFormat}
+use Rattle.cdf_format.specs.WellFormed.{Good}
 use Rattle.cdf_edits.proofs.Edits.OwnedOnce.{unused_none}
 use Rattle.cdf_edits.proofs.Frame.OwnersApart.{times-append}
 use Rattle.cdf_edits.specs.Space.Placing.{IsBody, type_of_body}
 use Rattle.cdf_writer.specs.Bodies.{cdr_body, gdr_body, whole_record}
 unfoldable use Rattle.cdf_writer.specs.Compact.{compact}
 use Rattle.cdf_writer.specs.Compact.{attributes_part, attributes_place, bodies, heads, is_little as means_little, r_part, r_place, z_part, z_place}
-use Rattle.cdf_writer.specs.Fine.{FineAttribute, FineAttributes, FineFile, Plain, PlainVariables}
+use Rattle.cdf_writer.specs.Fine.{FineAttribute, FineAttributes, FineFile}
 use Rattle.cdf_writer.specs.Laying.{laid, laid_size, link_if, past_attribute}
 use Rattle.cdf_writer.proofs.AttributesRead.{AttributesRead, attribute_shapes, attributes_chains, attributes_lead, attributes_linkable, attributes_mean, attributes_named, attributes_numbered, attributes_places, attributes_read, attributes_records, attributes_rules, new_from}
 use Rattle.cdf_writer.proofs.FilePart.{CdrReads, CountsFit, GdrReads, HeadsFit, cdr_made, cdr_reads, cdr_size, flags_say, gdr_made, gdr_reads, gdr_size}
 use Rattle.cdf_writer.proofs.Stands.{At, IsRecord, Standing, Stands, are_tiles, each_at, part_stands, places, places-append, places_distinct, size-append, size-cons, standing, stands_parts, whole_size, word_within}
-
--- ---- variables are read so far where none of them is packed
-
-read_if : (b : List ℕ) (vs : List VariableShape) → Each Plain (map (variable_of b) vs) → Hold (unread_variables b (vdrs vs))
-read_if b [] plain = tt
-read_if b (v ∷ more) plain = (rw plain.0.unpacked refl, read_if b more plain.1)
 
 -- ---- all bodies are records where the image is not too long
 
@@ -463,15 +455,8 @@ module _ (d : DataSet) (file : FineFile d) (attrs : FineAttributes d) (made : Va
         all_positive [] f = refl
         all_positive (n ∷ dims) f = and_from _ _ (and_from _ _ (of_le 1 n f.0.0) (of_le n signed_limit f.0.1)) (all_positive dims f.1)
 
-    pub keeps : VariablesRuled → KeepsFormat (sealed (compact d))
-    keeps rules = sealed_keeps (compact d) s first_rules (good_by_shape rules)
-
-    pub good : VariablesRuled → PlainVariables d → Good (compact d)
-    good rules plain =
-        let rs : Each Plain (map (variable_of (compact d)) vs.r_shapes) = subst (Each Plain) (sym vs.r_mean) plain.r_plain in
-        let zs : Each Plain (map (variable_of (compact d)) vs.z_shapes) = subst (Each Plain) (sym vs.z_mean) plain.z_plain in
-        let all : Each Plain (map (variable_of (compact d)) (variables s)) = subst (Each Plain) (sym (map-append (variable_of (compact d)) vs.r_shapes vs.z_shapes)) (Each-append Plain (map (variable_of (compact d)) vs.r_shapes) (map (variable_of (compact d)) vs.z_shapes) rs zs) in
-        good_if_read (compact d) s first_rules (good_by_shape rules) (read_if (compact d) (variables s) all)
+    pub good : VariablesRuled → Good (compact d)
+    good rules = sealed_keeps (compact d) s first_rules (good_by_shape rules)
 
     -- ---- no bytes are unused
 

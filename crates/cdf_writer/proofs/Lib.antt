@@ -11,6 +11,7 @@ pub mod IndexTree
 pub mod Vdr
 pub mod Leaves
 pub mod VariablesRead
+pub mod PlainMeaning
 pub mod Whole
 pub mod RoomPuts
 pub mod Meant

@@ -42,7 +42,7 @@ use Rattle.cdf_format.proofs.ChainsLemmas.{linkable-type}
 use Rattle.cdf_format.proofs.FileRecords.{gdr_holds}
 use Rattle.cdf_format.proofs.GoodByShape.{attribute_shape_rows}
 use Rattle.cdf_format.proofs.GoodHead.{cdr_fits, few_dimensions, gdr_fits, sizes_fit}
-use Rattle.cdf_format.proofs.GoodSound.{good_by_its_shape, good_is_sound, rules_of_good}
+use Rattle.cdf_format.proofs.GoodSound.{good_by_its_shape, good_is_sound}
 use Rattle.cdf_format.proofs.Members.{Distinct-middle, length-le_from_distinct}
 use Rattle.cdf_format.proofs.NameRules.{names_at, names_differ}
 use Rattle.cdf_format.proofs.TilesLemmas.{length_tiles}
@@ -177,7 +177,7 @@ module _ (b : List ℕ) (good : Good b) (words_fit : (p : ℕ) → word b p 4 < 
   sizes : list_all is_positive (r_sizes b (gdr_offset b)) ≡ true
   sizes =
       let f = sealed b in
-      let rows = gdr_holds f (rules_of_good b good) in
+      let rows = gdr_holds f good in
       let there : list_all is_positive (r_sizes f (gdr_offset b)) ≡ true = subst (λ (p : ℕ). list_all is_positive (r_sizes f p) ≡ true) g_same rows.1.0 in
       subst (λ (xs : List ℕ). list_all is_positive xs ≡ true) (ap (words f (gdr_offset b + 84)) dims_same ∙ words_front b (gdr_offset b + 84) (r_num_dims b (gdr_offset b)) (sizes_fit b good)) there
 

@@ -10,13 +10,13 @@ use Rattle.cdf_format.proofs.NameRules.{AreNew, names_at}
 use Rattle.cdf_format.specs.Content.{content}
 use Rattle.cdf_format.specs.Fields.{gdr_offset, r_num_dims, r_sizes}
 use Rattle.cdf_format.specs.IndexRules.{index_rows}
+use Rattle.cdf_format.specs.NotRead.{IsRead}
 use Rattle.cdf_format.specs.Owners.{space_of}
 use Rattle.cdf_format.specs.Records.{vdr_name}
 use Rattle.cdf_format.specs.Rules.{Hold}
-use Rattle.cdf_format.specs.Sealed.{sealed}
 use Rattle.cdf_format.specs.Shape.{Each, VariableShape, shape, vdrs}
 use Rattle.cdf_format.specs.VariableRules.{variable_rows}
-use Rattle.cdf_format.specs.WellFormed.{Good, KeepsFormat}
+use Rattle.cdf_format.specs.WellFormed.{Good}
 use Rattle.cdf_edits.proofs.Edits.VariableFrame.{IsRuled, hold_all, ruled_rows}
 use Rattle.cdf_writer.specs.Compact.{bodies, compact, heads, is_little as means_little, r_place, z_place}
 use Rattle.cdf_writer.specs.Fine.{Fine, FineAttributes, FineFile, FineVariable, FineVariables, PlainVariables}
@@ -25,9 +25,10 @@ use Rattle.cdf_model.specs.RecordSteps.{last_number}
 use Rattle.std.proofs.Common.{FitsSigned, zero}
 use Rattle.std.proofs.lemmas.Int.{ints}
 use Rattle.std.specs.Int.{w32}
-use Rattle.cdf_writer.proofs.Assembled.{VariableBodies, VariablesPart, gdr_on, good, keeps, no_waste, offset_on, little_on, means, parts_on, r_in, z_in}
+use Rattle.cdf_writer.proofs.Assembled.{VariableBodies, VariablesPart, gdr_on, good, no_waste, offset_on, little_on, means, parts_on, r_in, z_in}
 use Rattle.cdf_writer.proofs.AttributesRead.{new_from}
 use Rattle.cdf_writer.proofs.FilePart.{code4_fits}
+use Rattle.cdf_writer.proofs.PlainMeaning.{plain_is_read}
 use Rattle.cdf_writer.proofs.Stands.{places}
 use Rattle.cdf_writer.proofs.VariablesRead.{AllShare, AllStand, all_distinct, all_have, all_indexed, all_lead, all_linkable, all_made, all_mean, all_named, all_numbered, all_ruled, all_stand, all_times, apart_into, names_apart, variable_shapes}
 
@@ -132,16 +133,15 @@ module _ (d : DataSet) (file : FineFile d) (attrs : FineAttributes d) (vars : Fi
   max_fits : (heads d).r_max_rec < 256 ^ 4
   max_fits = code4_fits (last_number (fold max 0 (map (λ v. extent v.max_rec) d.r_variables))) (last_fits (fold max 0 (map (λ v. extent v.max_rec) d.r_variables)) (extents_small 0 d.r_variables vars.r_fine (omega arith)))
 
-  pub compact_keeps : KeepsFormat (sealed (compact d))
-  unfolding part
-  compact_keeps = keeps d file attrs made max_fits (part d file attrs vars made max_fits) (ruled_now d file attrs vars made max_fits)
-
-  pub compact_good : PlainVariables d → Good (compact d)
+  pub compact_good : Good (compact d)
   unfolding part
   compact_good = good d file attrs made max_fits (part d file attrs vars made max_fits) (ruled_now d file attrs vars made max_fits)
 
   pub compact_means : content (compact d) ≡ d
   compact_means = means d file attrs made max_fits (part d file attrs vars made max_fits)
+
+  pub compact_read : PlainVariables d → IsRead (compact d)
+  compact_read plain = plain_is_read (compact d) (subst PlainVariables (sym compact_means) plain)
 
   pub compact_wastes_none : ((space_of (compact d) (shape (compact d))).listed_bytes ≡ 0) × ((space_of (compact d) (shape (compact d))).unlisted_bytes ≡ 0)
   compact_wastes_none = no_waste d file attrs made max_fits (part d file attrs vars made max_fits)

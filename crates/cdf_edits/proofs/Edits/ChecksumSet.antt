@@ -1,6 +1,5 @@
 -- `checksum` writes two bits of Flags: the image is good as before, and its data set says whether a checksum is in use.
-use Rattle.cdf_edits.proofs.Common.{AllHold, AllKeep, Allowances, AreNew, Bool, ByStep, Changed, ChangedWithin, DataSet, Each, Each-split, Edit, Field, Follows, Go, Good, HasShape, Hold, Hold-append, Hold-split, In, In-append_left, In-append_right, IsGoodByShape, IsSound, Leaves, LeavesFinding, List, Mark, Only, Same, Shape, Unused, VariableStays, [], adr_name, adr_num, adrs, adrs_rows, ap, arith, attribute_shape_rows, cast_signed, cdr_flags, cdr_type, content, content_is, content_of, differ_by_names, differ_rows, encoding, encoding_at, false, field_marks, first_phases, flags, flat_map, gdr_eof, gdr_nr_vars, gdr_num_attr, gdr_nz_vars, gdr_offset, gdr_r_num_dims, gdr_type, good_by_its_shape, good_is_sound, good_long, has_bit, if◌then◌else◌, image_limit, inl, inr, is_a-in, is_a-type, is_in, is_positive, is_some, length, linked_types, list_all, majority_of, names_differ, number, number_kept, owned, r_sizes, r_vdrs_rows, refl, row, rules_of_good, same_name, sealed, sealed_kept, shape, shape_is, size_at, subst, sym, touched_field, true, type_at, unused_records, variables, vdr_num, vdrs, vdrs_append, w32, with_bits, word_kept, z_vdrs_rows, ℕ, ◌%◌, ◌*◌, ◌++◌, ◌+◌, ◌/◌, ◌==◌, ◌∙◌, ◌∷◌, ◌≡◌, ◌≢◌, ◌≤◌}
-use Rattle.cdf_format.proofs.GoodSound.{good_if_read, good_is_read}
+use Rattle.cdf_edits.proofs.Common.{AllHold, AllKeep, Allowances, AreNew, Bool, ByStep, Changed, ChangedWithin, DataSet, Each, Each-split, Edit, Field, Follows, Go, Good, HasShape, Hold, Hold-append, Hold-split, In, In-append_left, In-append_right, IsGoodByShape, IsSound, Leaves, LeavesFinding, List, Mark, Only, Same, Shape, Unused, VariableStays, [], adr_name, adr_num, adrs, adrs_rows, ap, arith, attribute_shape_rows, cast_signed, cdr_flags, cdr_type, content, content_is, content_of, differ_by_names, differ_rows, encoding, encoding_at, false, field_marks, first_phases, flags, flat_map, gdr_eof, gdr_nr_vars, gdr_num_attr, gdr_nz_vars, gdr_offset, gdr_r_num_dims, gdr_type, good_by_its_shape, good_is_sound, good_long, has_bit, if◌then◌else◌, image_limit, inl, inr, is_a-in, is_a-type, is_in, is_positive, is_some, length, linked_types, list_all, majority_of, names_differ, number, number_kept, owned, r_sizes, r_vdrs_rows, refl, row, rules_of_good, same_name, sealed, sealed_keeps, sealed_kept, shape, shape_is, size_at, subst, sym, touched_field, true, type_at, unused_records, variables, vdr_num, vdrs, vdrs_append, w32, with_bits, word_kept, z_vdrs_rows, ℕ, ◌%◌, ◌*◌, ◌++◌, ◌+◌, ◌/◌, ◌==◌, ◌∙◌, ◌∷◌, ◌≡◌, ◌≢◌, ◌≤◌}
 use Rattle.std.proofs.Common.{not, ◌||◌}
 use Rattle.cdf_model.specs.declared.answer.Reply.TheVariants as replies
 use Rattle.cdf_model.specs.declared.command.Command.TheVariants as commands
@@ -12,7 +11,7 @@ use Rattle.cdf_edits.proofs.Edits.OwnedOnce.{all_attributes_in, owned_once_if}
 use Rattle.cdf_edits.proofs.Edits.OwnersKept.{stood, keeps_fields, keep_file, all_keep}
 use Rattle.cdf_edits.proofs.Edits.RecordFrame.{AttributeLives, VariableLives, kept_away, part_clear}
 use Rattle.cdf_edits.proofs.Edits.StepEdits.{gdr_in, gdr_typed, gdr_long, fixed_long, field_edit}
-use Rattle.cdf_edits.proofs.Edits.VariableFrame.{all_variables_kept, kept_live, variables_in, variables_rules, indexes_rules, nums_kept, variables_read}
+use Rattle.cdf_edits.proofs.Edits.VariableFrame.{all_variables_kept, kept_live, variables_in, variables_rules, indexes_rules, nums_kept}
 use Rattle.cdf_edits.proofs.Frame.FileSound.{file_stays_sound}
 use Rattle.cdf_edits.proofs.Frame.Meaning.{FileSame, Kept}
 use Rattle.cdf_edits.proofs.Frame.OwnersApart.{adrs_linked, file_found, file_from_attributes, file_from_variables, file_is_alone, unused_from_file, unused_in}
@@ -262,7 +261,7 @@ module _ (b now : List ℕ) (md5 : Bool) (good : Good b) (changed : Changed b no
       record {
         reply = replies.Plain;
         goes = ap (λ (d : DataSet). ByStep (Go d replies.Plain)) (sym content_now);
-        good = good_if_read now s (first_hold now s shape_now now_sound.gdr_fits (first_says first) (omega arith)) (good_now image) (variables_read sound e file variables_live (good_is_read b good));
+        good = sealed_keeps now s (first_hold now s shape_now now_sound.gdr_fits (first_says first) (omega arith)) (good_now image);
         longer = omega arith;
         within = omega arith;
         reads = λ e. absurd cc;

@@ -247,7 +247,7 @@ module _ {b now : List ℕ} {n : ℕ} (good : Good b) (d : Deletes b now n) wher
   good_after short =
       let image = good_by_its_shape b good in
       let end = gdr_field sound e refl gdr_eof refl (omega arith) ∙ end_before b good ∙ sym (freed_long frees) in
-      good_image_if sound whole good image (record {
+      good_image_if sound whole (sealed_kept b (good_long b s image) (rules_of_good b good)).0 image (record {
         counted = counted;
         own_rules = tt;
         differ = differ;

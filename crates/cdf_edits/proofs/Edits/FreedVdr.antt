@@ -175,7 +175,7 @@ module _ {b late now : List ℕ} {kind : Kind} {before : List VariableShape} {ow
       let image = good_by_its_shape b good in
       let e = as_long_now f in
       replaced_good good at freed_splices (replaced_counted good at freed_splices count_now (nums_from (sound good at) edit_now file_now before (ours good at).0 front_live) (nums_from (sound good at) edit_now file_now after (after_ours good at) back_live) (num_is says_now))
-      ruled (packed says_now) (replaced_named good at freed_splices (name_is says_now inside.0 inside.1))
+      ruled (replaced_named good at freed_splices (name_is says_now inside.0 inside.1))
       (owned_once_if b now s shape_then all_marks (by ∷ old ∷ []) (sound good at) image.owned_once edit_now same_owners
       (of_both (IsSorted now shape_then) (λ type size. inl ((λ u. (plain_kind kind).no_uir (sym (typed good at) ∙ sym says_now.typed ∙ u)), by_once good at m says)) (inr (freed_type f, old_unowned good at m says))))
       (gdr_same f gdr_eof (omega arith) ∙ ends (sound good at) m ∙ sym e) (omega arith)

@@ -94,4 +94,4 @@ module _ {b now : List ℕ} {kind : Kind} {before : List VariableShape} {own : V
   )
 
   pub good_now : Hold (index_rows now new v index) → is_max_rec (number now v vdr_max_rec) ≡ true → OwnedOnce now (with_shapes s kind new list (before ++ mine ∷ after)) → eof now s.gdr ≡ length now → length now ≤ image_limit → Good now
-  good_now rows max owned end short = of_own.good_by good at own_edit (ruled rows max) (packed_stays file stays) (named_before good at own_edit name_same) owned end short
+  good_now rows max owned end short = of_own.good_by good at own_edit (ruled rows max) (named_before good at own_edit name_same) owned end short

@@ -61,7 +61,7 @@ module _ {b now new list : List ℕ} {marks : List Mark} {reborn : List ℕ} {ki
   good_chained good counted differ rules beside sorted end short =
       let image = good_by_its_shape b good in
       let rows : Hold (entries_rows now own.adr (count_field kind) chain') = (eq-eqb (number now own.adr (count_field kind)) (length chain') counted, Hold-append (flat_map (entry_rows now own.adr) chain') (differ_rows 7 (same_number now) [] chain') (Hold-members (entry_rows now own.adr) chain' rules) (differ_by_nums now chain' differ)) in
-      good_image_if sound (splices sound r) good image (rules_rechained sound r image rows beside sorted) end short
+      good_image_if sound (splices sound r) (sealed_kept b (good_long b (shape b) image) (rules_of_good b good)).0 image (rules_rechained sound r image rows beside sorted) end short
 
   -- what is to be shown of owners, of the space and of the acts
   pub record Settled (need : ℕ) (acts : List Act) : Type 0 where

@@ -1,7 +1,5 @@
 -- One variable of a kind is another one by now, or has another index, and may say otherwise of itself, where all other variables stay: the shape, the content and the rules of the image.
 use Rattle.cdf_edits.proofs.Edits.StepEdits.{gdr_long}
-use Rattle.std.specs.Prelude.{not}
-use Rattle.cdf_format.specs.Shape.{is_compressed}
 use Rattle.cdf_edits.proofs.Edits.RecordFrame.{gdr_part, chain_stays, gdr_field, gdr_place, file_same}
 use Rattle.cdf_edits.proofs.Edits.MarkLemmas.{the_one}
 use Rattle.cdf_edits.proofs.Edits.EditActs.{acts_none}
@@ -15,7 +13,7 @@ use Rattle.cdf_edits.proofs.Edits.VariableSplice.{VariableSplices, shape_now, go
 use Rattle.cdf_edits.proofs.Frame.Meaning.{FileSame}
 use Rattle.cdf_edits.proofs.Frame.OwnersApart.{all_variable_records}
 use Rattle.cdf_edits.proofs.Common.{ActsFollow, Avoids, Away, DataSet, Edit, Field, Good, HasShape, HasVariable, Hold, In, IsChain, Kind, List, Mark, Nodes, OwnedOnce, R, Shape, Variable, VariableShape, Z, [], ap, arith, avoided, bytes_eq, cast_signed, content, content_is, count_of, eof, false, fixed_size, flat_map, gdr_eof, gdr_offset, gdr_r_max_rec, gdr_type, gdr_uir_head, good_by_its_shape, good_long, head_of, image_limit, inl, inr, integer4, is_record_type, keeps_file, length, length-append, length-map, map, map-append, name_in, number, number_rows, owned, r_max_rec, refl, rules_of_good, sealed_kept, set_at, shape, shape_is, shapes_of, size_at, slice_set, subst, suc, sym, true, type_at, type_in, uir_type, unmarked, variable_of, variable_records, variables_chain, variables_of, vdr_name, vdr_num, vdrs, vdrs_append, w32, with_variables, word_kept, ℕ, ◌++◌, ◌+◌, ◌==◌, ◌∙◌, ◌∷◌, ◌≡◌, ◌≤◌}
-use Rattle.cdf_edits.proofs.Edits.StandsAmong.{StandsAmong, sound, ours, after_ours, loose}
+use Rattle.cdf_edits.proofs.Edits.StandsAmong.{StandsAmong, sound, ours, after_ours}
 
 -- ---- one variable of a kind became another one
 
@@ -53,15 +51,14 @@ module _ {b now : List ℕ} {kind : Kind} {before : List VariableShape} {own min
   replaced_named same m beside = subst (λ (n : List ℕ). bytes_eq n (name_in b m vdr_name) ≡ false) (sym same) (own_names_apart (sound good at) sp (good_by_its_shape b good) own.vdr m (inl refl) beside)
 
   -- where it has its rules again, with a name that no other has
-  pub replaced_good : Hold (vdrs_rows kind now (vdrs (before ++ mine ∷ after))) → IsRuled now new mine → is_compressed now mine.vdr ≡ is_compressed b own.vdr → ((m : ℕ) → IsBeside (sound good at) sp m → bytes_eq (name_in now mine.vdr vdr_name) (name_in b m vdr_name) ≡ false) → OwnedOnce now (with_shapes (shape b) kind new list (before ++ mine ∷ after)) → eof now (shape b).gdr ≡ length now
+  pub replaced_good : Hold (vdrs_rows kind now (vdrs (before ++ mine ∷ after))) → IsRuled now new mine → ((m : ℕ) → IsBeside (sound good at) sp m → bytes_eq (name_in now mine.vdr vdr_name) (name_in b m vdr_name) ≡ false) → OwnedOnce now (with_shapes (shape b) kind new list (before ++ mine ∷ after)) → eof now (shape b).gdr ≡ length now
       → length now ≤ image_limit → Good now
-  replaced_good counted ruled packed_same named owned end short =
+  replaced_good counted ruled named owned end short =
       let image = good_by_its_shape b good in
-      good_image_if (sound good at) sp good image (record {
+      good_image_if (sound good at) sp (sealed_kept b (good_long b (shape b) image) (rules_of_good b good)).0 image (record {
         counted = counted;
         apart = apart_if (sound good at) sp image (λ y z i j differ. absurd (differ (the_one mine.vdr y i ∙ sym (the_one mine.vdr z j)))) (λ y z i beside. subst (λ (u : ℕ). bytes_eq (name_in now u vdr_name) (name_in b z vdr_name) ≡ false) (sym (the_one mine.vdr y i)) (named z beside));
         own_ruled = (ruled, tt);
-        own_read = (ap not (packed_same ∙ loose good at), tt);
         owned = owned;
       }) end short
 
@@ -174,7 +171,7 @@ module _ {b now : List ℕ} {kind : Kind} {before : List VariableShape} {own : V
   own_ruled = ruled_before good at splices
 
   -- where it has them again, with a name that no other has
-  pub good_by : IsRuled now new mine → is_compressed now own.vdr ≡ is_compressed b own.vdr → ((m : ℕ) → IsBeside (sound good at) splices m → bytes_eq (name_in now own.vdr vdr_name) (name_in b m vdr_name) ≡ false) → OwnedOnce now (with_shapes s kind new list (before ++ mine ∷ after)) → eof now s.gdr ≡ length now → length now ≤ image_limit → Good now
+  pub good_by : IsRuled now new mine → ((m : ℕ) → IsBeside (sound good at) splices m → bytes_eq (name_in now own.vdr vdr_name) (name_in b m vdr_name) ≡ false) → OwnedOnce now (with_shapes s kind new list (before ++ mine ∷ after)) → eof now s.gdr ≡ length now → length now ≤ image_limit → Good now
   good_by = replaced_good good at splices counted
 
   pub named_before : name_in now own.vdr vdr_name ≡ name_in b own.vdr vdr_name → (m : ℕ) → IsBeside (sound good at) splices m → bytes_eq (name_in now own.vdr vdr_name) (name_in b m vdr_name) ≡ false
@@ -192,11 +189,11 @@ module _ {b now : List ℕ} {kind : Kind} {before : List VariableShape} {own : V
   pub shape_stays : shape now ≡ shape b
   shape_stays = same_shape good at x ∙ as_was
 
-  pub good_in_place : avoided marks gdr_type gdr_eof.place (gdr_eof.place + gdr_eof.width) ≡ true → IsRuled now (shape b).records own → is_compressed now own.vdr ≡ is_compressed b own.vdr → ((m : ℕ) → IsBeside (sound good at) (splices good at x) m → bytes_eq (name_in now own.vdr vdr_name) (name_in b m vdr_name) ≡ false) → length b ≤ image_limit → Good now
-  good_in_place clear ruled packed_same named short =
+  pub good_in_place : avoided marks gdr_type gdr_eof.place (gdr_eof.place + gdr_eof.width) ≡ true → IsRuled now (shape b).records own → ((m : ℕ) → IsBeside (sound good at) (splices good at x) m → bytes_eq (name_in now own.vdr vdr_name) (name_in b m vdr_name) ≡ false) → length b ≤ image_limit → Good now
+  good_in_place clear ruled named short =
       let image = good_by_its_shape b good in
       let first = (sealed_kept b (good_long b (shape b) image) (rules_of_good b good)).0 in
-      good_by good at x ruled packed_same named (owned_once_if b now (shape b) (with_shapes (shape b) kind (shape b).records (shape b).unused (before ++ own ∷ after)) marks [] (sound good at) image.owned_once x.edit (λ m out. ap (λ (y : Shape). used_times y m) as_was) (λ m i. absurd i))
+      good_by good at x ruled named (owned_once_if b now (shape b) (with_shapes (shape b) kind (shape b).records (shape b).unused (before ++ own ∷ after)) marks [] (sound good at) image.owned_once x.edit (λ m out. ap (λ (y : Shape). used_times y m) as_was) (λ m i. absurd i))
       (gdr_field (sound good at) x.edit x.file_clear gdr_eof clear (omega arith) ∙ eof_by_rules b (shape b) (sound good at) first ∙ sym as_long) (omega arith)
 
   pub no_acts_follow : unmarked marks uir_type ≡ true → ActsFollow b now []

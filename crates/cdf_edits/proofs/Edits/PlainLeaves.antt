@@ -4,7 +4,6 @@ use Rattle.cdf_edits.proofs.Edits.Common.{Ascending, IsRuled, StandsAmong, all_r
 use Rattle.cdf_edits.proofs.Edits.LeafPieces.{IsOneOf, PlacedApart, in_order, of_each}
 use Rattle.cdf_edits.proofs.Edits.LeavesOrder.{index_ascends}
 use Rattle.cdf_edits.proofs.Edits.PlainVariables.{IsPlainBlock, IsUncompressed, is_uncompressed}
-use Rattle.cdf_edits.proofs.Edits.StandsAmong.{loose}
 
 -- a block with its records
 pub record PlainLeaf (b : List ℕ) (size : ℕ) (l : Leaf) : Type 0 where
@@ -27,13 +26,13 @@ module _ {b : List ℕ} {kind : Kind} {before : List VariableShape} {own : Varia
   pub leaves_ascend : Ascending 0 (suc record_number_limit) (leaves_of own.index)
   leaves_ascend = index_ascends b s.records own.vdr own.index own_rules.1
 
-  pub uncompressed : IsUncompressed b s.records own
-  uncompressed = is_uncompressed own (has good at) (fits good at) own_rules.1 (loose good at)
+  pub uncompressed : is_compressed b own.vdr ≡ false → IsUncompressed b s.records own
+  uncompressed loose = is_uncompressed own (has good at) (fits good at) own_rules.1 loose
 
   pub plain_leaf : is_compressed b own.vdr ≡ false → (l : Leaf) → IsOneOf (leaves_of own.index) l → PlainLeaf b (record_bytes b own.vdr) l
-  plain_leaf not_packed l i =
+  plain_leaf loose l i =
       let leaves = leaves_of own.index in
-      let is = of_each (IsPlainBlock b s.records) leaves l uncompressed.plain_blocks i in
+      let is = of_each (IsPlainBlock b s.records) leaves l (uncompressed loose).plain_blocks i in
       let o = in_order 0 (suc record_number_limit) leaves leaves_ascend l i in
       let small : l.last ≤ record_number_limit = omega (arith, o.before) in
       let fit : BlockFits b own.vdr l false = subst (BlockFits b own.vdr l) is.1 (of_each (LeafFits b s.records own.vdr) leaves l (fits good at).2 i).1 in

@@ -185,7 +185,7 @@ module _ {b now : List ℕ} {kind : Kind} {before : List VariableShape} {own : V
   own_ruled = of_own.own_ruled good at own_edit
 
   pub good_now : length b ≤ image_limit → Good now
-  good_now = good_in_place good at own_edit w.as_long (grind arith) (of_index.ruled good at index_edit (index_ruled own_ruled.1) w.max_rec_ruled) (packed_stays file (of_index.stays good at index_edit)) (named_before good at own_edit (of_index.name_same good at index_edit))
+  good_now = good_in_place good at own_edit w.as_long (grind arith) (of_index.ruled good at index_edit (index_ruled own_ruled.1) w.max_rec_ruled) (named_before good at own_edit (of_index.name_same good at index_edit))
 
   pub no_acts_follow : ActsFollow b now []
   no_acts_follow = of_own.no_acts_follow good at own_edit w.as_long (grind arith)

@@ -116,7 +116,7 @@ module _ {b now : List ℕ} {kind : Kind} {n : ℕ} (good : Good b) (d : Removes
       let image = good_by_its_shape b good in
       let t = tests sound takes in
       let end = gdr_field sound takes.edit t.file_clear gdr_eof t.eof_clear (omega arith) ∙ end_before b good ∙ sym long_now in
-      taken_good sound takes says good image (mine_freed d.own) count_now end (let l = long_now in omega arith)
+      taken_good sound takes says (sealed_kept b (good_long b s image) (rules_of_good b good)).0 image (mine_freed d.own) count_now end (let l = long_now in omega arith)
 
   -- rMaxRec is not written by freeing
   pub r_max_mid : number now s.gdr gdr_r_max_rec ≡ number d.mid s.gdr gdr_r_max_rec

@@ -1,9 +1,5 @@
 -- An edit that puts some attributes in the place of others: the image has its shape, its content and its rules if these have theirs.
-use Rattle.cdf_edits.proofs.Common.{AllHold, Attribute, AttributeFits, AttributeShape, AttributeStays, DataSet, Each, Each-append, Each-split, Edit, Field, FileStays, Good, HasEntries, HasShape, Hold, Hold-append, Hold-split, In, In-append_left, In-append_right, IsChain, IsGoodByShape, IsSound, List, Mark, OwnedOnce, Shape, VariableStays, [], adr_name, adr_type, adrs, adrs_rows, all_unmarked, ap, arith, attribute_of, attribute_shape_rows, avoided, both, cdr_type, content, content_is, content_of, differ_rows, eof, first_phases, fixed_size, flat_map, flat_map-append, gdr_adr_head, gdr_nr_vars, gdr_nz_vars, gdr_offset, gdr_r_vdr_head, gdr_type, gdr_uir_head, gdr_z_vdr_head, has_bit, image_limit, is_a-from, is_a-in, is_in, is_linkable, is_record_type, keeps_file, keeps_variables, length, linkable-in, linkable-type, majority_of, map, map-append, number, owned_records, r_vdr_type, r_vdrs_rows, refl, row, same_name, sealed, size_at, subst, sym, times, true, type_at, uir_type, variable_types, variables, vdr_num, vdrs, vdrs_append, z_vdr_type, z_vdrs_rows, ℕ, ◌&&◌, ◌++◌, ◌+◌, ◌==◌, ◌∙◌, ◌∷◌, ◌≡◌, ◌≤◌}
-use Rattle.cdf_format.specs.NotRead.{unread_variables}
-use Rattle.cdf_format.proofs.SealedRules.{good_long, sealed_kept}
-use Rattle.cdf_format.proofs.ShapeLemmas.{shape_is}
-use Rattle.cdf_format.proofs.GoodSound.{good_if_read, good_is_read, rules_of_good}
+use Rattle.cdf_edits.proofs.Common.{AllHold, Attribute, AttributeFits, AttributeShape, AttributeStays, DataSet, Each, Each-append, Each-split, Edit, Field, FileStays, Good, HasEntries, HasShape, Hold, Hold-append, Hold-split, In, In-append_left, In-append_right, IsChain, IsGoodByShape, IsSound, List, Mark, OwnedOnce, Shape, VariableStays, [], adr_name, adr_type, adrs, adrs_rows, all_unmarked, ap, arith, attribute_of, attribute_shape_rows, avoided, both, cdr_type, content, content_is, content_of, differ_rows, eof, first_phases, fixed_size, flat_map, flat_map-append, gdr_adr_head, gdr_nr_vars, gdr_nz_vars, gdr_offset, gdr_r_vdr_head, gdr_type, gdr_uir_head, gdr_z_vdr_head, has_bit, image_limit, is_a-from, is_a-in, is_in, is_linkable, is_record_type, keeps_file, keeps_variables, length, linkable-in, linkable-type, majority_of, map, map-append, number, owned_records, r_vdr_type, r_vdrs_rows, refl, row, same_name, sealed, sealed_keeps, size_at, subst, sym, times, true, type_at, uir_type, variable_types, variables, vdr_num, vdrs, vdrs_append, z_vdr_type, z_vdrs_rows, ℕ, ◌&&◌, ◌++◌, ◌+◌, ◌==◌, ◌∙◌, ◌∷◌, ◌≡◌, ◌≤◌}
 use Rattle.cdf_edits.proofs.Frame.SameShape.{has_entries, has_variables, same_attributes, same_variables}
 use Rattle.cdf_edits.proofs.Rules.FirstHead.{first_hold}
 use Rattle.cdf_edits.proofs.Frame.Meaning.{FileSame, Kept}
@@ -15,7 +11,7 @@ use Rattle.cdf_edits.proofs.Edits.FirstRecords.{gdr_still, cdr_still, typed_now,
 use Rattle.cdf_edits.proofs.Edits.RecordFrame.{VariableLives, chain_stays, gdr_field, gdr_place, file_same, file_stays}
 use Rattle.cdf_edits.proofs.Edits.MarkLemmas.{away-avoids, all_unmarked-away}
 use Rattle.cdf_edits.proofs.Edits.StepEdits.{gdr_in, fixed_long}
-use Rattle.cdf_edits.proofs.Edits.VariableFrame.{all_variables_kept, kept_live, variables_fit, variables_stay, variables_rules, indexes_rules, nums_kept, variables_read}
+use Rattle.cdf_edits.proofs.Edits.VariableFrame.{all_variables_kept, kept_live, variables_fit, variables_stay, variables_rules, indexes_rules, nums_kept}
 use Rattle.cdf_edits.proofs.Edits.FieldWritten.{Stands}
 
 -- a shape with other records and unused list, and other attributes
@@ -231,8 +227,5 @@ module _ {b now : List ℕ} {s : Shape} {new list : List ℕ} {marks : List Mark
 
   -- ---- the file
 
-  pub good_image_if : Good b → IsGoodByShape b s → OwnRules → eof now s.gdr ≡ length now → length now ≤ image_limit → Good now
-  good_image_if before_it good rules eof_is short =
-      let first = (sealed_kept b (good_long b s good) (rules_of_good b before_it)).0 in
-      let read_before = subst (λ (x : Shape). Hold (unread_variables b (vdrs (variables x)))) (shape_is b s good.has_shape) (good_is_read b before_it) in
-      good_if_read now s' (first_hold now s' shape_now (gdr_room sound e splices.file_clear splices.typed) (first_says sound e splices.file_clear splices.typed first eof_is) short) (good_if good rules) (variables_read sound e file variables_live read_before)
+  pub good_image_if : AllHold (first_phases (sealed b)) → IsGoodByShape b s → OwnRules → eof now s.gdr ≡ length now → length now ≤ image_limit → Good now
+  good_image_if first good rules eof_is short = sealed_keeps now s' (first_hold now s' shape_now (gdr_room sound e splices.file_clear splices.typed) (first_says sound e splices.file_clear splices.typed first eof_is) short) (good_if good rules)

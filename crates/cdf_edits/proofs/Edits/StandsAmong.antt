@@ -1,6 +1,6 @@
 -- One variable of a good image among those of its kind: where it stands, and that its links, its records and its rules are as they are to be.
 use Rattle.cdf_edits.proofs.Common.{Good, HasShape, HasVariable, In, In-append_left, IsSound, Kind, List, R, Shape, VariableFits, VariableShape, Z, [], ap, arith, fixed_size, flat_map, good_is_sound, index_types, inl, inr, is_in, is_linkable, leaves_of, length, linkable-in, linkable-type, refl, shape, shapes_of, size_at, subst, sym, tile_lies, true, type_at, type_in, variable_records, variables_chain, vdrs, ℕ, ◌++◌, ◌+◌, ◌∙◌, ◌∷◌, ◌≡◌, ◌≤◌, is_compressed, false, Each, Each-split, variables}
-use Rattle.cdf_format.proofs.GoodSound.{good_is_read}
+use Rattle.cdf_format.specs.NotRead.{IsRead}
 use Rattle.cdf_edits.proofs.Edits.PlainVariables.{all_loose}
 use Rattle.cdf_edits.proofs.Edits.InRecords.{places_of}
 use Rattle.cdf_edits.proofs.Edits.RecordFrame.{index_records}
@@ -92,9 +92,8 @@ module _ {b : List ℕ} {kind : Kind} {before : List VariableShape} {own : Varia
       clash R e = cc
       clash Z e = cc
 
-  -- it is not packed
-  pub loose : is_compressed b own.vdr ≡ false
-  loose =
-      let all = all_loose b (variables s) (good_is_read b good) in
+  -- it is not packed where none is
+  pub loose_by : IsRead b → is_compressed b own.vdr ≡ false
+  loose_by read =
       let is = λ (v : VariableShape). is_compressed b v.vdr ≡ false in
-      (Each-split is before (own ∷ after) (subst (Each is) at.was (of_kind is kind s all))).1.0
+      (Each-split is before (own ∷ after) (subst (Each is) at.was (of_kind is kind s (all_loose b (variables s) read)))).1.0

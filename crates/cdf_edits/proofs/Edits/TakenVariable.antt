@@ -238,11 +238,10 @@ module _ {b now : List ℕ} {s : Shape} {kind : Kind} {before : List VariableSha
         let same = nums_from sound r.edit file before (ours sound r.at).0 before_live in
         counting_by kind now (vdrs (before ++ after)) (ap (λ (g : ℕ). number now g (count_of (variables_chain kind))) place ∙ count) (numbers_by kind b now (shapes_of s kind) before own after r.at.was same says.numbered (counted_before good kind))
 
-    pub taken_good : Good b → IsGoodByShape b s → ((m : ℕ) → In m (variable_records own) → In m reborn) → number now s.gdr (count_of (variables_chain kind)) ≡ length (vdrs (before ++ after)) → eof now s.gdr ≡ length now → length now ≤ image_limit → Good now
+    pub taken_good : AllHold (first_phases (sealed b)) → IsGoodByShape b s → ((m : ℕ) → In m (variable_records own) → In m reborn) → number now s.gdr (count_of (variables_chain kind)) ≡ length (vdrs (before ++ after)) → eof now s.gdr ≡ length now → length now ≤ image_limit → Good now
     taken_good first good all count eof_is short = good_image_if sound splices first good (record {
       counted = counted good count;
       apart = apart_if sound splices good (λ x y i j differ. absurd i) (λ x y i beside. absurd i);
       own_ruled = tt;
-      own_read = tt;
       owned = owned_left (left_by sound r.at list) good.owned_once r.edit (λ m i. r.mine m (r.born m i)) all says.freed;
     }) eof_is short

@@ -1,7 +1,5 @@
 -- Variables whose records an edit leaves stay, and keep their rules, whatever records an image has beside.
 use Rattle.cdf_edits.proofs.Common.{Away, Each, Each-split, Edit, HasShape, HasVariable, Hold, Hold-append, Hold-split, In, In-append, In-append_left, In-append_right, IsSound, Leaf, LeafFits, List, Mark, NodeFits, Row, Shape, Variable, VariableFits, VariableShape, VariableStays, [], all_unmarked, ap, arith, avoided, both, cpr_link, cpr_type, cvvr_type, either, ended, fixed_size, flat_map, index_rows, index_types, indexes_shape_rows, inl, inr, is_a, is_a-in, is_a-type, is_block, is_compressed, is_in, is_linkable, is_named_apart, keeps_index_records, leaves_of, linkable-in, linkable-type, name_in, nodes_of, nodes_stand, number, r_vdr_type, refl, size_at, subst, sym, true, type_at, variable_records, variable_rows, variable_types, variables, variables_shape_rows, vdr_name, vdr_num, vdrs, vdrs_append, vvr_type, vxr_type, z_vdr_type, ℕ, ◌&&◌, ◌++◌, ◌==◌, ◌∙◌, ◌∷◌, ◌≡◌, ◌≤◌, ◌⊎◌}
-use Rattle.std.specs.Prelude.{not}
-use Rattle.cdf_format.specs.NotRead.{unread_variables}
 use Rattle.cdf_edits.proofs.Frame.OwnerAlone.{Each-in}
 use Rattle.cdf_edits.proofs.Rules.OfIndexes.{index_rules_kept}
 use Rattle.cdf_edits.proofs.Frame.Meaning.{FileSame, Kept, KeptButLink, but_link}
@@ -122,11 +120,6 @@ pub remaining_names : (b now records new : List ℕ) (vs : List VariableShape) �
 remaining_names b now records new [] r m i = absurd i
 remaining_names b now records new (v ∷ vs) r m (inl q) = subst (λ (x : ℕ). name_in now x vdr_name ≡ name_in b x vdr_name) (sym q) (ap (λ (x : Variable). x.name) r.0.stays.1)
 remaining_names b now records new (v ∷ vs) r m (inr i) = remaining_names b now records new vs r.1 m i
-
--- none of them is packed, where none was
-pub remaining_read : (b now records new : List ℕ) (vs : List VariableShape) → Each (VariableRemains b now records new) vs → Hold (unread_variables b (vdrs vs)) → Hold (unread_variables now (vdrs vs))
-remaining_read b now records new [] r read = tt
-remaining_read b now records new (v ∷ more) r read = (ap not (ap (λ (x : Variable). x.rle) r.0.stays.1) ∙ read.0, remaining_read b now records new more r.1 read.1)
 
 -- ---- variables of the image
 
@@ -329,9 +322,6 @@ module _ {b now : List ℕ} {s : Shape} {new : List ℕ} {marks : List Mark} {re
           let names = remaining_names b now s.records new (variables s) all_remain in
           let same = one_by_one (λ v. variable_rows now new ids v.vdr ≡ variable_rows b s.records ids v.vdr) (λ v has fits live sub kind. one_rules v has fits live sub kind ids names) (variables s) ours lives in
           subst Hold (sym (same_rows (variable_rows now new ids) (variable_rows b s.records ids) (variables s) same)) rules
-
-      pub variables_read : Hold (unread_variables b (vdrs (variables s))) → Hold (unread_variables now (vdrs (variables s)))
-      variables_read = remaining_read b now s.records new (variables s) all_remain
 
       pub indexes_rules : Hold (indexes_shape_rows b s) → Hold (flat_map (λ (v : VariableShape). index_rows now new v.vdr v.index) (variables s))
       indexes_rules rules =

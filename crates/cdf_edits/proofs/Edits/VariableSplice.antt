@@ -1,11 +1,5 @@
 -- An edit that puts some variables of a kind in the place of others: the image has its shape, its content and its rules if these have theirs.
-use Rattle.cdf_edits.proofs.Common.{AllHold, AreNew, AttributeStays, Bool, DataSet, Each, Each-append, Each-split, Edit, Field, FileStays, Good, HasShape, HasVariable, Hold, Hold-append, Hold-split, In, IsChain, IsGoodByShape, IsSound, Kind, List, Mark, OwnedOnce, R, Shape, Variable, VariableFits, VariableShape, VariableStays, Z, [], adr_name, adr_num, adr_type, adrs, adrs_rows, all_unmarked, ap, arith, attribute_shape_rows, attribute_types, avoided, both, cdr_type, content, content_is, content_of, count_of, differ_by_names, differ_rows, eof, first_phases, fixed_size, flat_map, gdr_adr_head, gdr_num_attr, gdr_offset, gdr_type, gdr_uir_head, has_bit, head_of, image_limit, index_rows, is_a-from, is_a-in, is_named_apart, is_record_type, keeps_file, length, majority_of, map, map-append, names_differ, number, owned_records, r_vdrs_rows, refl, row, same_name, sealed, shapes_of, size_at, subst, sym, times, true, type_at, type_in, uir_type, variable_of, variables, variables_chain, vdrs, with_variables, z_vdrs_rows, ℕ, ◌&&◌, ◌++◌, ◌+◌, ◌==◌, ◌∙◌, ◌∷◌, ◌≡◌, ◌≤◌, false, not}
-use Rattle.cdf_format.specs.Shape.{is_compressed}
-use Rattle.cdf_edits.proofs.Edits.PlainVariables.{all_loose, read_if}
-use Rattle.cdf_format.specs.NotRead.{unread_variables}
-use Rattle.cdf_format.proofs.SealedRules.{good_long, sealed_kept}
-use Rattle.cdf_format.proofs.ShapeLemmas.{shape_is}
-use Rattle.cdf_format.proofs.GoodSound.{good_if_read, good_is_read, rules_of_good}
+use Rattle.cdf_edits.proofs.Common.{AllHold, AreNew, AttributeStays, Bool, DataSet, Each, Each-append, Each-split, Edit, Field, FileStays, Good, HasShape, HasVariable, Hold, Hold-append, Hold-split, In, IsChain, IsGoodByShape, IsSound, Kind, List, Mark, OwnedOnce, R, Shape, Variable, VariableFits, VariableShape, VariableStays, Z, [], adr_name, adr_num, adr_type, adrs, adrs_rows, all_unmarked, ap, arith, attribute_shape_rows, attribute_types, avoided, both, cdr_type, content, content_is, content_of, count_of, differ_by_names, differ_rows, eof, first_phases, fixed_size, flat_map, gdr_adr_head, gdr_num_attr, gdr_offset, gdr_type, gdr_uir_head, has_bit, head_of, image_limit, index_rows, is_a-from, is_a-in, is_named_apart, is_record_type, keeps_file, length, majority_of, map, map-append, names_differ, number, owned_records, r_vdrs_rows, refl, row, same_name, sealed, sealed_keeps, shapes_of, size_at, subst, sym, times, true, type_at, type_in, uir_type, variable_of, variables, variables_chain, vdrs, with_variables, z_vdrs_rows, ℕ, ◌&&◌, ◌++◌, ◌+◌, ◌==◌, ◌∙◌, ◌∷◌, ◌≡◌, ◌≤◌}
 use Rattle.cdf_edits.proofs.Edits.AttributeFrame.{AreThere, lives_away, all_remain, they_stay, they_fit, remaining_rules, remaining_names, nums_stay}
 use Rattle.cdf_edits.proofs.Edits.AttributeRemains.{AttributeRemains}
 use Rattle.cdf_edits.proofs.Edits.ChainKinds.{attribute_typed}
@@ -186,7 +180,6 @@ module _ {b now : List ℕ} {s : Shape} {kind : Kind} {new list : List ℕ} {mar
     pub counted : Hold (vdrs_rows kind now (vdrs variables'))
     pub apart : (m : ℕ) → In m (vdrs (variables s')) → is_named_apart now (vdrs (variables s')) m ≡ true
     pub own_ruled : Each (IsRuled now new) own'
-    pub own_read : Hold (unread_variables now (vdrs own'))
     pub owned : OwnedOnce now s'
 
   adrs_now : adrs_rows now (adrs s) ≡ adrs_rows b (adrs s)
@@ -218,17 +211,6 @@ module _ {b now : List ℕ} {s : Shape} {kind : Kind} {new list : List ℕ} {mar
       let ruled = IsRuled now new in
       each_kind ruled kind s variables' (Each-append ruled before (own' ++ after) (keep_ruled before splices.before_remain p.0.0) (Each-append ruled own' after rules.own_ruled (keep_ruled after splices.after_remain p.0.1.1))) (keep_ruled others others_remain p.1)
 
-  -- none of the variables is packed, where none was and none of the new ones is
-  read_now : OwnRules → Hold (unread_variables b (vdrs (variables s))) → Hold (unread_variables now (vdrs (variables s')))
-  read_now rules read =
-      let is = λ (v : VariableShape). is_compressed now v.vdr ≡ false in
-      let was = λ (v : VariableShape). is_compressed b v.vdr ≡ false in
-      let still = λ (v : VariableShape) (x : VariableRemains b now s.records new v) (loose : was v). ap (λ (y : Variable). y.rle) x.stays.1 ∙ loose in
-      let keep = λ (vs : List VariableShape) (remain : Each (VariableRemains b now s.records new) vs) (loose : Each was vs). Each-apply was is vs (Each-map (VariableRemains b now s.records new) (λ v. was v → is v) still vs remain) loose in
-      let all = all_loose b (variables s) read in
-      let p = Each-split was before (own ++ after) (subst (Each was) splices.was (of_kind was kind s all)) in
-      read_if now (variables s') (each_kind is kind s variables' (Each-append is before (own' ++ after) (keep before splices.before_remain p.0) (Each-append is own' after (all_loose now own' rules.own_read) (keep after splices.after_remain (Each-split was own after p.1).1))) (keep others others_remain (of_kind was (other_kind kind) s all)))
-
   pub good_if : IsGoodByShape b s → OwnRules → IsGoodByShape now s'
   good_if good rules =
       let p = Hold-split (flat_map (attribute_shape_rows b) s.attributes) (differ_rows 2 (same_name b adr_name) [] (adrs s)) good.attributes in
@@ -259,8 +241,5 @@ module _ {b now : List ℕ} {s : Shape} {kind : Kind} {new list : List ℕ} {mar
 
   -- ---- the file
 
-  pub good_image_if : Good b → IsGoodByShape b s → OwnRules → eof now s.gdr ≡ length now → length now ≤ image_limit → Good now
-  good_image_if before_it good rules eof_is short =
-      let first = (sealed_kept b (good_long b s good) (rules_of_good b before_it)).0 in
-      let read_before = subst (λ (x : Shape). Hold (unread_variables b (vdrs (variables x)))) (shape_is b s good.has_shape) (good_is_read b before_it) in
-      good_if_read now s' (first_hold now s' shape_now (gdr_room sound e splices.file_clear splices.typed) (first_says sound e splices.file_clear splices.typed first eof_is) short) (good_if good rules) (read_now rules read_before)
+  pub good_image_if : AllHold (first_phases (sealed b)) → IsGoodByShape b s → OwnRules → eof now s.gdr ≡ length now → length now ≤ image_limit → Good now
+  good_image_if first good rules eof_is short = sealed_keeps now s' (first_hold now s' shape_now (gdr_room sound e splices.file_clear splices.typed) (first_says sound e splices.file_clear splices.typed first eof_is) short) (good_if good rules)

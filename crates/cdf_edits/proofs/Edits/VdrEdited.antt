@@ -134,7 +134,7 @@ module _ {b now : List ℕ} {kind : Kind} {before : List VariableShape} {own : V
   own_ruled image = of_own.own_ruled good at own_edit
 
   pub good_now : length b ≤ image_limit → has_name now v vdr_name ≡ true → ((m : ℕ) → IsBeside (sound good at) splices m → bytes_eq (name_in now v vdr_name) (name_in b m vdr_name) ≡ false) → Good now
-  good_now short named apart = good_in_place good at own_edit w.as_long (t.gdr_clear _ _) (ruled (of_own.own_ruled good at own_edit) named) w.packed apart short
+  good_now short named apart = good_in_place good at own_edit w.as_long (t.gdr_clear _ _) (ruled (of_own.own_ruled good at own_edit) named) apart short
 
   -- ---- what stays
 

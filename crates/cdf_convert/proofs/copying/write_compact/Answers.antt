@@ -1,4 +1,4 @@
-use Rattle.cdf_convert.proofs.WholeCopy.{copy_good, copy_keeps, copy_means, copy_written, if_passed}
+use Rattle.cdf_convert.proofs.WholeCopy.{copy_good, copy_means, copy_read, copy_written, if_passed}
 use Rattle.cdf_convert.proofs.copying.write_compact.Goals as goal
 
 pub returns-clause-written : goal.returns-clause-written
@@ -7,11 +7,11 @@ returns-clause-written g c = copy_written g.B.Area.image g.B.Area.frame (g.P.Par
 pub returns-clause-content : goal.returns-clause-content
 returns-clause-content g c = copy_means g.B.Area.image g.B.Area.frame (g.P.Parts.told c.args.parts.now) c.requires.fine c.put_all-done.new.writer c.into_area.result c.into_area.ensures.area (c.into_area.ensures.whole (g.P.Parts.told c.args.parts.now) c.requires.fine) c.put_all-done.result c.put_all-done.ensures.took
 
-pub returns-clause-keeps : goal.returns-clause-keeps
-returns-clause-keeps g c = copy_keeps g.B.Area.image g.B.Area.frame (g.P.Parts.told c.args.parts.now) c.requires.fine c.put_all-done.new.writer c.into_area.result c.into_area.ensures.area (c.into_area.ensures.whole (g.P.Parts.told c.args.parts.now) c.requires.fine) c.put_all-done.result c.put_all-done.ensures.took
-
 pub returns-clause-good : goal.returns-clause-good
 returns-clause-good g c = copy_good g.B.Area.image g.B.Area.frame (g.P.Parts.told c.args.parts.now) c.requires.fine c.put_all-done.new.writer c.into_area.result c.into_area.ensures.area (c.into_area.ensures.whole (g.P.Parts.told c.args.parts.now) c.requires.fine) c.put_all-done.result c.put_all-done.ensures.took
+
+pub returns-clause-read : goal.returns-clause-read
+returns-clause-read g c = copy_read g.B.Area.image g.B.Area.frame (g.P.Parts.told c.args.parts.now) c.requires.fine c.put_all-done.new.writer c.into_area.result c.into_area.ensures.area (c.into_area.ensures.whole (g.P.Parts.told c.args.parts.now) c.requires.fine) c.put_all-done.result c.put_all-done.ensures.took
 
 pub returns-clause-too_large : goal.returns-clause-too_large
 returns-clause-too_large g c =

@@ -1,6 +1,4 @@
-use Rattle.std.proofs.Common.{arith, length, subst, sym, ◌-◌, ◌≤◌, ℕ, List}
-use Rattle.std.proofs.lemmas.List.{length-take}
-use Rattle.cdf_convert.specs.Laws.{IsOfBytes}
+use Rattle.std.proofs.Common.{◌-◌}
 use Rattle.cdf_convert_tests.proofs.ByteLists.{meant_by_front}
 use Rattle.cdf_convert_tests.proofs.made.session_over.Goals as goal
 

@@ -30,17 +30,17 @@ join_later-requires-clause-room g c =
     let one = one_of (g.A.Area.image c.args.area.now) c.args.vdr c.requires.vdr in
     let same = c.in_ok-later.ensures.area.image ∙ c.in_ok-head.ensures.area.image in
     let cut = rw same at c.in_ok-cut_index.ensures.cut in
-    room_there c.requires.good one.among one.vdr_is c.in_ok-head.ensures.area.image c.in_ok-head.ensures.value c.args.last c.in_ok-later.ensures.later c.requires.size c.requires.order c.requires.short (cut _ _ _ _ one.among one.vdr_is) c.in-Some.leaf c.in-Some.is
+    room_there c.requires.good one.among one.vdr_is c.in_ok-head.ensures.area.image c.in_ok-head.ensures.value c.args.last c.in_ok-later.ensures.later c.requires.size c.requires.order c.requires.short (cut _ _ _ _ one.among one.vdr_is) c.requires.unpacked c.in-Some.leaf c.in-Some.is
 
 pub returns-in-Some-clause-closed : goal.returns-in-Some-clause-closed
 returns-in-Some-clause-closed g c =
     on_ok_weaker c.join_later.result (λ joins kind before own after among is.
     (let same = c.in_ok-later.ensures.area.image ∙ c.in_ok-head.ensures.area.image in
     let cut = rw same at c.in_ok-cut_index.ensures.cut in
-    closed_some c.requires.good among is c.in_ok-head.ensures.area.image c.in_ok-head.ensures.value c.args.last c.in_ok-later.ensures.later c.requires.size c.requires.order c.requires.short (cut kind before own after among is) c.in-Some.leaf c.in-Some.is joins)) c.join_later.ensures.joins
+    closed_some c.requires.good among is c.in_ok-head.ensures.area.image c.in_ok-head.ensures.value c.args.last c.in_ok-later.ensures.later c.requires.size c.requires.order c.requires.short (cut kind before own after among is) c.requires.unpacked c.in-Some.leaf c.in-Some.is joins)) c.join_later.ensures.joins
 
 pub returns-in-None-clause-closed : goal.returns-in-None-clause-closed
 returns-in-None-clause-closed g c = λ kind before own after among is.
     (let same = c.in_ok-later.ensures.area.image ∙ c.in_ok-head.ensures.area.image in
     let cut = rw same at c.in_ok-cut_index.ensures.cut in
-    closed_none c.requires.good among is c.in_ok-head.ensures.area.image c.in_ok-head.ensures.value c.args.last c.in_ok-later.ensures.later c.requires.size c.requires.order c.requires.short (cut kind before own after among is) c.in-None.is refl)
+    closed_none c.requires.good among is c.in_ok-head.ensures.area.image c.in_ok-head.ensures.value c.args.last c.in_ok-later.ensures.later c.requires.size c.requires.order c.requires.short (cut kind before own after among is) c.requires.unpacked c.in-None.is refl)

@@ -1,4 +1,4 @@
-use Rattle.cdf_space.proofs.Common.{AllGiven, AreFree, IsGiven, List, [], arith, at_drop_all, at_drop_more, drop, edit_more, get_or, inl, length, refl, shape, subst, sym, ℕ, ◌+◌, ◌<◌, ◌∙◌, ◌∷◌, ◌≡◌}
+use Rattle.cdf_space.proofs.Common.{AllGiven, AreFree, IsGiven, List, arith, at_drop_all, at_drop_more, drop, edit_more, get_or, inl, length, refl, shape, subst, sym, ℕ, ◌+◌, ◌<◌, ◌∙◌, ◌∷◌}
 use Rattle.cdf_edits.proofs.Edits.FreedBytes.{free_again}
 use Rattle.cdf_space.proofs.placing.free_records.Goals as goal
 

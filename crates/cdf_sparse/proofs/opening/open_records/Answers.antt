@@ -38,13 +38,16 @@ divide_leaf-requires-clause-leaf g c =
     let same = c.in_ok-later.ensures.area.image ∙ c.in_ok-head.ensures.area.image in
     rw (same) (found_some c.args.vdr c.args.last c.in_ok-later.later c.in-Some.leaf c.in-Some.is c.in_ok-head.ensures.area.image c.in_ok-head.ensures.value c.in_ok-later.ensures.later)
 
+pub divide_leaf-requires-clause-unpacked : goal.divide_leaf-requires-clause-unpacked
+divide_leaf-requires-clause-unpacked g c = rw (c.in_ok-later.ensures.area.image, c.in_ok-head.ensures.area.image) c.requires.unpacked
+
 pub join_later-requires-clause-room : goal.join_later-requires-clause-room
 join_later-requires-clause-room g c =
     let one = one_of (g.A.Area.image c.args.area.now) c.args.vdr c.requires.vdr in
     let same = c.in_ok-later.ensures.area.image ∙ c.in_ok-head.ensures.area.image in
     let found = found_there c.args.vdr c.args.last c.in_ok-later.later c.in_ok-head.ensures.area.image c.in_ok-head.ensures.value c.in_ok-later.ensures.later in
     let cut = rw same at c.in_ok-cut_index.ensures.cut in
-    join_room c.requires.good one.among one.vdr_is c.args.last found c.requires.size c.requires.order (omega (arith, c.requires.room, c.requires.limit)) (cut _ _ _ _ one.among one.vdr_is) c.in-Some.leaf c.in-Some.is
+    join_room c.requires.good one.among one.vdr_is c.requires.unpacked c.args.last found c.requires.size c.requires.order (omega (arith, c.requires.room, c.requires.limit)) (cut _ _ _ _ one.among one.vdr_is) c.in-Some.leaf c.in-Some.is
 
 -- the last return, behind join_later
 pub returns-clause-opened : goal.returns-clause-opened
@@ -53,7 +56,7 @@ returns-clause-opened g c =
     (let same = c.in_ok-later.ensures.area.image ∙ c.in_ok-head.ensures.area.image in
     let found = found_there c.args.vdr c.args.last c.in_ok-later.later c.in_ok-head.ensures.area.image c.in_ok-head.ensures.value c.in_ok-later.ensures.later in
     let cut = rw same at c.in_ok-cut_index.ensures.cut in
-    open_joined c.requires.good among is c.args.last found c.requires.size c.requires.order (omega (arith, c.requires.room, c.requires.limit)) (cut kind before own after among is) c.in-Some.leaf c.in-Some.is (omega arith) joins)) c.join_later.ensures.joins
+    open_joined c.requires.good among is c.requires.unpacked c.args.last found c.requires.size c.requires.order (omega (arith, c.requires.room, c.requires.limit)) (cut kind before own after among is) c.in-Some.leaf c.in-Some.is (omega arith) joins)) c.join_later.ensures.joins
 
 -- where no leaf was found, cut_index is the last call
 pub returns-in_default-clause-opened : goal.returns-in_default-clause-opened
@@ -62,4 +65,4 @@ returns-in_default-clause-opened g c =
     (let same = c.in_ok-later.ensures.area.image ∙ c.in_ok-head.ensures.area.image in
     let found = found_there c.args.vdr c.args.last c.in_ok-later.later c.in_ok-head.ensures.area.image c.in_ok-head.ensures.value c.in_ok-later.ensures.later in
     let cut = rw same at given in
-    open_none c.requires.good among is c.args.last found c.requires.size c.requires.order (omega (arith, c.requires.room, c.requires.limit)) (cut kind before own after among is) c.in_default.is refl)) c.cut_index.ensures.cut
+    open_none c.requires.good among is c.requires.unpacked c.args.last found c.requires.size c.requires.order (omega (arith, c.requires.room, c.requires.limit)) (cut kind before own after among is) c.in_default.is refl)) c.cut_index.ensures.cut

@@ -22,7 +22,7 @@ finish-requires-clause-opened g c =
 pub returns-in-Ok-clause-ends : goal.returns-in-Ok-clause-ends
 returns-in-Ok-clause-ends g c =
     attached_all c.args.asked.now.new c.args.asked.now.no_save c.args.asked.now.space (file_of (g.S.Store.disk c.args.store)) _ (g.S.Store.disk c.args.store) _ (g.S.Store.disk c.finish.result.store) (g.I.Source.left c.args.script.now) (g.I.Source.left c.run_area-ran.new.script) _ _
-    _ c.run_area-ran.result.outcome c.finish.result.notes.left c.finish.result.status c.in-Ok.ensures.image c.run_area-ran.ensures.ends c.run_area-ran.ensures.good
+    _ c.run_area-ran.result.outcome c.finish.result.notes.left c.finish.result.status c.in-Ok.ensures.image c.run_area-ran.ensures.ends c.run_area-ran.ensures.well_formed
     (ap (λ (f : Frame (Disk g.S.Store.Under × ℕ × Unstored)). f.under.0) (c.run_area-ran.ensures.frame ∙ c.in-Ok.ensures.frame)) c.finish.ensures.ends c.finish.ensures.left
     _ _ (λ old same. same ∙ c.in-Ok.ensures.unedited old) c.run_area-ran.ensures.unedited c.finish.ensures.unmoved
 
@@ -70,7 +70,7 @@ returns-in-Err-clause-ends g c = record {
   end = [];
   outcome = Err statuses.NoMemory;
   over = inl (refl, refl, refl);
-  good = tt;
+  well_formed = tt;
   stored = (refl, ap (λ s. g.S.Store.disk s) c.in-Err.ensures.handed_back);
   leaves = c.none.ensures.left;
   idle = λ old. if_all (line_idles image_limit (image_of (file_of (g.S.Store.disk c.args.store)))) (g.I.Source.left c.args.script.now) _ (ap (λ s. g.S.Store.disk s) c.in-Err.ensures.handed_back, λ is. cc);

@@ -1,6 +1,5 @@
-use Rattle.cdf_tool.proofs.Common.{Bool, GivesNext, IsShort, ap, counts, is_some, line_idles, refl, subst, sym, was_refused, ◌∙◌}
+use Rattle.cdf_tool.proofs.Common.{GivesNext, IsShort, ap, counts, is_some, line_idles, refl, subst, sym, was_refused, ◌∙◌}
 use Rattle.cdf_saving.specs.declared.status.Status.TheVariants as statuses
-use Rattle.cdf_tool.proofs.Standing.{Reached}
 use Rattle.cdf_tool.proofs.CountLemmas.{counted_on, counts_stay, sink_counted, with_source}
 use Rattle.cdf_tool.proofs.Lines.{all_drained, all_replies, next_answered, next_fewer, next_same, next_short, next_stops, starts, stopped_cut}
 use Rattle.cdf_tool.proofs.OnlyReads.{next_pass, stays_on, stays_still}

@@ -1,6 +1,5 @@
-use Rattle.cdf_tool.proofs.Common.{Bool, Stays, all_idle_over, ap, arith, line_idles, refl, subst, sym, was_refused, ◌∙◌}
+use Rattle.cdf_tool.proofs.Common.{Stays, all_idle_over, ap, arith, line_idles, refl, was_refused, ◌∙◌}
 use Rattle.cdf_tool.proofs.CountLemmas.{counted_on}
-use Rattle.cdf_tool.proofs.Standing.{IsAfter}
 use Rattle.cdf_tool.proofs.ScriptLemmas.{at_end, at_start, goes_on, halted, has_taken, none_taken, taken_more}
 use Rattle.cdf_tool.proofs.OnlyReads.{if_all, stays_on, stays_still, taken_pass}
 use Rattle.cdf_tool.proofs.script.run_script.Goals as goal

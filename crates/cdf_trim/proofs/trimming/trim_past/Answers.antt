@@ -19,16 +19,19 @@ find_last_entry-requires-clause-index g c =
 pub returns-in_default-clause-past : goal.returns-in_default-clause-past
 returns-in_default-clause-past g c kind before own after among is =
     let none = rw (c.in_default.is, c.in_ok-head.ensures.area.image, c.in_ok-head.ensures.value) at c.in_ok-last.ensures.last in
-    rw (c.in_ok-last.ensures.area.image, c.in_ok-head.ensures.area.image) (trims_none c.requires.good among is c.requires.short c.requires.tidy c.args.first none)
+    rw (c.in_ok-last.ensures.area.image, c.in_ok-head.ensures.area.image) (trims_none c.requires.good among is c.requires.short c.requires.tidy c.args.first c.requires.unpacked none)
 
 -- the last block ends before these records
 pub returns-then-last-first-clause-past : goal.returns-then-last-first-clause-past
 returns-then-last-first-clause-past g c kind before own after among is =
     let names = rw (c.in-Some.is, c.in_ok-head.ensures.area.image, c.in_ok-head.ensures.value) at c.in_ok-last.ensures.last in
-    rw (c.in_ok-last.ensures.area.image, c.in_ok-head.ensures.area.image) (trims_nothing c.requires.good among is c.requires.short c.requires.tidy c.args.first c.in-Some.last names c.if-last-first.true)
+    rw (c.in_ok-last.ensures.area.image, c.in_ok-head.ensures.area.image) (trims_nothing c.requires.good among is c.requires.short c.requires.tidy c.args.first c.requires.unpacked c.in-Some.last names c.if-last-first.true)
 
 pub cut_past-requires-clause-good : goal.cut_past-requires-clause-good
 cut_past-requires-clause-good g c = subst Good (sym (c.in_ok-last.ensures.area.image ∙ c.in_ok-head.ensures.area.image)) c.requires.good
+
+pub cut_past-requires-clause-unpacked : goal.cut_past-requires-clause-unpacked
+cut_past-requires-clause-unpacked g c = rw (c.in_ok-last.ensures.area.image, c.in_ok-head.ensures.area.image) c.requires.unpacked
 
 pub returns-then-first-last-clause-past : goal.returns-then-first-last-clause-past
 returns-then-first-last-clause-past g c = rw (c.in_ok-last.ensures.area.image, c.in_ok-head.ensures.area.image) at c.in_ok-cut_past.ensures.past
@@ -45,7 +48,7 @@ returns-clause-past g c =
     λ kind before own after among is.
     (let names = rw (c.in-Some.is, c.in_ok-head.ensures.area.image, c.in_ok-head.ensures.value) at c.in_ok-last.ensures.last in
     let written = rw (c.in_ok-last.ensures.area.image, c.in_ok-head.ensures.area.image) at c.in_ok-set_entry.ensures.set in
-    trims_end c.requires.good among is c.requires.short c.requires.tidy c.args.first c.in-Some.last names (omega arith) (omega arith) written)
+    trims_end c.requires.good among is c.requires.short c.requires.tidy c.args.first c.requires.unpacked c.in-Some.last names (omega arith) (omega arith) written)
 
 -- ---- whether each block stays
 
