@@ -1,5 +1,6 @@
 pub mod Common
 pub mod LastBegun
+pub mod LeafBytes
 pub mod PadSites
 pub mod PutRoomCount
 pub mod NextItem

@@ -1,5 +1,5 @@
 -- How large a put makes the file at most, by what was read of the variable.
-use Rattle.cdf_var_records.proofs.Common.{None, Option, Some, [], block_count, extent, map, min, sum_by-cons, Ascending, Form, Good, HasIndex, IsForm, List, Nodes, Variable, ap, ap₂, arith, blocks_room, covered, false, first_written, index_at, leaves_ascend, leaves_of, length, number, packed_room, put_room, ranges_before_put, ranges_of, record_number_limit, refl, subst, suc, sym, uncovered, variable_at, vdr_vxr_head, ℕ, ◌+◌, ◌-◌, ◌<◌, ◌∙◌, ◌∷◌, ◌≡◌, ◌≤◌}
+use Rattle.cdf_var_records.proofs.Common.{None, Option, Some, [], block_count, extent, map, min, sum_by-cons, Ascending, Form, Good, HasIndex, IsForm, List, Nodes, Variable, ap, ap₂, arith, blocks_room, covered, false, first_written, index_at, leaves_ascend, leaves_of, length, number, packed_room, put_room, ranges_before_put, ranges_of, record_number_limit, refl, subst, suc, sym, uncovered, variable_at, vdr_vxr_head, ℕ, ◌+◌, ◌-◌, ◌<◌, ◌∙◌, ◌∷◌, ◌≡◌, ◌≤◌, ◌≡◌}
 use Rattle.cdf_edits.proofs.Common.{Leaf, either, inl, inr, lt-ltb, ltb, nat_tests}
 use Rattle.cdf_edits.specs.Commands.Room.{entries_in, quotient_up, widest}
 use Rattle.cdf_format.specs.Records.{linked_size, vxr_bytes}
@@ -14,10 +14,9 @@ use Rattle.cdf_var_records.specs.declared.put_room.NewBlocks.{NewBlocks}
 use Rattle.std.proofs.Math.Nat.{mul-le-mul}
 use Rattle.std.specs.Prelude.{IfSome, zero, ◌*◌, if◌then◌else◌}
 use Rattle.cdf_model.specs.declared.kinds.Sparse.{Sparse}
-use Rattle.cdf_edits.proofs.Edits.StandsAmong.{loose}
-use Rattle.cdf_var_records.proofs.RecordForms.{variable_is}
 use Rattle.cdf_var_records.proofs.RecordReading.{index, lies}
 use Rattle.cdf_var_records.proofs.PadSites.{at}
+use Rattle.cdf_format.specs.Shape.{is_compressed}
 
 no_packed : (v : Variable) (nodes : Nodes) (r : ℕ) → v.rle ≡ false → packed_room v nodes r ≡ 0
 no_packed v nodes r loose = rw loose refl
@@ -112,9 +111,9 @@ module _ {b : List ℕ} {form : Form} (good : Good b) (is : IsForm b form) (r : 
     pub leaves_rise : Ascending 0 (suc record_number_limit) (leaves_of (index_at x head))
     leaves_rise = leaves_ascend 0 record_number_limit (index_at x head) index_there.order (omega arith)
 
-  module _ (missing : ℕ) (missing_is : missing ≡ uncovered v nodes r) where
+  module _ (missing : ℕ) (missing_is : missing ≡ uncovered v nodes r) (unpacked : is_compressed b vdr ≡ false) where
     room_there : put_room v nodes r ≡ blocks_room v nodes missing
-    room_there = room_is v nodes r missing (ap (λ (y : Variable). y.rle) (variable_is good is.is_vdr) ∙ loose good (at good is.is_vdr)) missing_is
+    room_there = room_is v nodes r missing unpacked missing_is
 
     -- the room is that of these blocks, and none where no record is without one
     pub blocks_there : (blocks : NewBlocks) → blocks.count ≡ block_count v → blocks.size ≡ record_length v → blocks.missing ≡ missing → put_room v nodes r ≡ room_in nodes blocks

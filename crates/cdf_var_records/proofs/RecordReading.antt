@@ -1,12 +1,18 @@
 -- What a record of a variable reads as, by what was read of its VDR.
-use Rattle.cdf_var_records.proofs.Common.{Bool, DataType, Form, Good, HasIndex, HoldsRecords, IsForm, IsRecordShape, Leaf, List, None, Option, Previous, Shape, Some, Variable, ap, ap₂, arith, drop, elems_at, extent, has_bit, has_pad, if◌then◌else◌, item_at, leaf_in, length, max_rec_at, missing, mul-div_cancel_left, mul-le-mul_right, number, number_read, option_map, pad_record, plain_bytes, read, record_bytes, record_in, record_limit, record_of_leaf, record_size, seen, size_of, subst, sym, take, true, turned, type_of_variable, unwrap_or, value_bytes, value_count, variable_at, vdr_vxr_head, whole_elements, ℕ, ◌%◌, ◌*◌, ◌+◌, ◌-◌, ◌/◌, ◌<◌, ◌∙◌, ◌≡◌, ◌≤◌}
+use Rattle.cdf_var_records.proofs.Common.{Bool, DataType, Form, Good, HasIndex, HoldsRecords, IsForm, IsRecordShape, Leaf, List, None, Option, Previous, Shape, Some, Variable, ap, ap₂, arith, drop, elems_at, extent, false, field_bytes, has_bit, has_pad, if◌then◌else◌, item_at, leaf_in, length, max_rec_at, missing, mul-div_cancel_left, mul-le-mul_right, number, number_read, option_map, pad_record, plain_bytes, read, record_bytes, record_in, record_limit, record_of_leaf, record_size, seen, size_of, subst, sym, take, true, turned, type_of_variable, unwrap_or, value_bytes, value_count, variable_at, vdr_vxr_head, whole_elements, ℕ, ◌%◌, ◌*◌, ◌+◌, ◌-◌, ◌/◌, ◌<◌, ◌∙◌, ◌≡◌, ◌≤◌}
 use Rattle.cdf_var_records.proofs.PadSites.{vdr_lies}
 use Rattle.cdf_var_records.proofs.PreviousRecord.{last_leaf, last_stored, none_stored}
 use Rattle.cdf_var_records.proofs.RecordForms.{has_index, pad_lies}
 use Rattle.cdf_var_records.proofs.LeafItems.{by_leaf}
-use Rattle.cdf_var_records.proofs.RecordsRead.{holding, piece_long, read_past, read_within, stored_whole}
+use Rattle.cdf_var_records.proofs.LeafBytes.{piece_long}
+use Rattle.cdf_var_records.proofs.RecordsRead.{among_others, between, held_fits, held_inside, held_small, holding, read_past, read_within, stored_whole}
 use Rattle.cdf_var_records.specs.Next.{leaves_at}
 use Rattle.cdf_var_records.specs.Previous.{last_begun}
+use Rattle.cdf_edits.proofs.Common.{cvvr_c_size, unpacks_to}
+use Rattle.cdf_format.specs.Records.{vvr_records}
+use Rattle.cdf_format.specs.Stored.{packed_bytes}
+use Rattle.cdf_format.specs.VariableFields.{plain_size}
+use Rattle.cdf_model.specs.RunLengths.{plain_of}
 
 -- a record has no more values than bytes
 pub values_fit : (shape : Shape) → IsRecordShape shape → value_count shape.dims shape.varys ≤ record_limit
@@ -64,25 +70,49 @@ module _ {b : List ℕ} {form : Form} (good : Good b) (f : IsForm b form) where
   no_record rec e = ap (option_map (record_of_leaf b vdr rec)) e ∙ sym (by_leaf good f.is_vdr rec)
 
   module _ (rec : ℕ) (leaf : Leaf) (found : Some (seen leaf) ≡ leaf_in b vdr rec) where
-    pub held : HoldsRecords b leaf (record_bytes b vdr) × (leaf.first ≤ rec) × (rec ≤ leaf.last)
-    held = holding good f.is_vdr rec leaf (sym found)
+    abbrev stored : List ℕ
+    stored = record_in (plain_bytes b vdr (seen leaf)) (record_bytes b vdr) (rec - leaf.first)
+
+    pub among_leaf : (leaf.first ≤ rec) × (rec ≤ leaf.last)
+    among_leaf = between good f.is_vdr rec leaf (sym found)
 
     module _ (size : ℕ) (as_read : size ≡ record_size form.shape.t form.shape.elems form.shape.dims form.shape.varys) where
       sized : record_bytes b vdr ≡ size
       sized = sym (as_read ∙ record_size_is)
 
-      pub holds : HoldsRecords b leaf size
-      holds = subst (HoldsRecords b leaf) sized held.0
+      -- where its block is not packed
+      module _ (plain : leaf.packed ≡ false) where
+        pub holds : HoldsRecords b leaf size
+        holds = subst (HoldsRecords b leaf) sized (holding good f.is_vdr rec leaf (sym found) plain)
 
-      module _ (bytes : List ℕ) (is : (at : ℕ) → record_bytes b at ≡ size → bytes ≡ record_in (plain_bytes b at (seen leaf)) size (rec - leaf.first)) where
-        is_stored : bytes ≡ record_in (plain_bytes b vdr (seen leaf)) (record_bytes b vdr) (rec - leaf.first)
-        is_stored = is vdr sized ∙ ap (λ (n : ℕ). record_in (plain_bytes b vdr (seen leaf)) n (rec - leaf.first)) (sym sized)
+      pub reads_plain : (bytes : List ℕ) → ((at : ℕ) → record_bytes b at ≡ size → bytes ≡ record_in (plain_bytes b at (seen leaf)) size (rec - leaf.first)) → bytes ≡ stored
+      reads_plain bytes is = is vdr sized ∙ ap (λ (n : ℕ). record_in (plain_bytes b vdr (seen leaf)) n (rec - leaf.first)) (sym sized)
 
-        pub whole : length bytes % size_of form.place.t ≡ 0
-        whole = subst (λ (t : DataType). length bytes % size_of t ≡ 0) (sym f.place.t_is) (ap (λ (xs : List ℕ). length xs % size_of (type_of_variable b vdr)) is_stored ∙ stored_whole good f.is_vdr rec leaf (sym found))
+      -- where it is packed
+      module _ (packed : leaf.packed ≡ true) where
+        pub unpacks_inside : leaf.at + 24 + number b leaf.at cvvr_c_size ≤ length b
+        unpacks_inside = held_inside good f.is_vdr rec leaf (sym found) packed
 
-        pub leaf_has : (now : List ℕ) → now ≡ turned form.place.t form.encoding.little bytes → Some now ≡ item_at rec variable.recs
-        leaf_has now turns = ap Some turns ∙ (λ i. Some (turned (f.place.t_is i) (f.order i) (is_stored i))) ∙ ap (option_map (record_of_leaf b vdr rec)) found ∙ sym (by_leaf good f.is_vdr rec)
+        pub unpacks_whole : unpacks_to (packed_bytes b leaf.at) ((leaf.last + 1 - leaf.first) * size) ≡ true
+        unpacks_whole = ap (λ (n : ℕ). unpacks_to (packed_bytes b leaf.at) ((leaf.last + 1 - leaf.first) * n)) (sym sized) ∙ held_fits good f.is_vdr rec leaf (sym found) packed
+
+        pub unpacks_small : (leaf.last + 1 - leaf.first) * size ≤ record_limit
+        unpacks_small = subst (λ (n : ℕ). (leaf.last + 1 - leaf.first) * n ≤ record_limit) sized (held_small good f.is_vdr rec leaf (sym found) packed)
+
+        pub reads_packed : (bytes : List ℕ) → bytes ≡ take size (drop ((rec - leaf.first) * size) (plain_of (packed_bytes b leaf.at))) → bytes ≡ stored
+        reads_packed bytes is =
+            is ∙ ap (λ (n : ℕ). record_in (plain_of (packed_bytes b leaf.at)) n (rec - leaf.first)) (sym sized)
+            ∙ ap (λ (p : Bool). record_in (if p then plain_of (packed_bytes b leaf.at) else field_bytes b leaf.at (vvr_records (plain_size b vdr (seen leaf)))) (record_bytes b vdr) (rec - leaf.first)) (sym packed)
+
+      pub within_block : (rec - leaf.first) * size + size ≤ (leaf.last + 1 - leaf.first) * size
+      within_block = subst (λ (n : ℕ). (rec - leaf.first) * n + n ≤ (leaf.last + 1 - leaf.first) * n) sized (among_others good f.is_vdr rec leaf (sym found))
+
+    module _ (bytes : List ℕ) (is : bytes ≡ stored) where
+      pub whole : length bytes % size_of form.place.t ≡ 0
+      whole = subst (λ (t : DataType). length bytes % size_of t ≡ 0) (sym f.place.t_is) (ap (λ (xs : List ℕ). length xs % size_of (type_of_variable b vdr)) is ∙ stored_whole good f.is_vdr rec leaf (sym found))
+
+      pub leaf_has : (now : List ℕ) → now ≡ turned form.place.t form.encoding.little bytes → Some now ≡ item_at rec variable.recs
+      leaf_has now turns = ap Some turns ∙ (λ i. Some (turned (f.place.t_is i) (f.order i) (is i))) ∙ ap (option_map (record_of_leaf b vdr rec)) found ∙ sym (by_leaf good f.is_vdr rec)
 
   -- ---- a record that is missing, where the one stored before it is read
 

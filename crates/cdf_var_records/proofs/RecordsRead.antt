@@ -1,10 +1,11 @@
 -- What a record of a variable of a good image reads as, and how long it is.
-use Rattle.cdf_var_records.proofs.Common.{Bool, DataType, Good, HoldsRecords, IsVdr, Kind, Leaf, List, NoRule, None, Option, Pad, Previous, Some, Sparse, Variable, ap, arith, default_element, default_value, dimensions_at, dims_at, drop, elems_at, extent, false, field_bytes, good_block, good_is_sound, has_pad, if◌then◌else◌, index_at, inl, inr, is_little, is_z, item_at, le-ltb, lt-ltb, leaf_in, leaf_of, leaves_of, length, length-drop, length-repeat, length-take, max_rec_at, missing, mul-le-mul_right, nat_lt, network_bytes, number, number_read, option_map, pad_field, pad_record, pad_value, pad_width, plain_block, plain_bytes, read, read_at, record_bytes, record_in, record_is, record_of_leaf, refl, seen, shape, size_of, size_stays, sym, take, true, type_of_variable, unwrap_or, value_bytes, value_count, variable_at, varys_at, vdr_vxr_head, whole_elements, ℕ, ◌%◌, ◌*◌, ◌+◌, ◌-◌, ◌<◌, ◌∙◌, ◌≡◌, ◌≤◌, ◌∷◌, subst}
-use Rattle.cdf_format.proofs.ShapeLemmas.{Each-split}
-use Rattle.cdf_format.specs.Shape.{Each, VariableShape, is_compressed, variables}
-use Rattle.cdf_format.proofs.GoodSound.{good_is_read}
-use Rattle.cdf_edits.proofs.Edits.PlainVariables.{all_loose}
+use Rattle.cdf_var_records.proofs.Common.{Bool, DataType, Good, HoldsRecords, IsVdr, Kind, Leaf, List, NoRule, None, Option, Pad, Previous, Some, Sparse, Variable, ap, arith, default_element, default_value, dimensions_at, dims_at, drop, elems_at, extent, false, field_bytes, good_block, good_is_sound, has_pad, if◌then◌else◌, index_at, inl, inr, is_little, is_z, item_at, le-ltb, lt-ltb, leaf_in, leaf_of, leaves_of, length, length-repeat, max_rec_at, missing, mul-le-mul_right, nat_lt, network_bytes, number, number_read, option_map, pad_field, pad_record, pad_value, pad_width, plain_bytes, read, read_at, record_bytes, record_in, record_limit, record_of_leaf, refl, seen, shape, size_of, size_stays, sym, take, true, type_of_variable, unwrap_or, value_bytes, value_count, variable_at, varys_at, vdr_vxr_head, whole_elements, ℕ, ◌%◌, ◌*◌, ◌+◌, ◌-◌, ◌<◌, ◌∙◌, ◌≡◌, ◌≤◌}
+use Rattle.cdf_edits.proofs.Common.{cvvr_c_size, unpacks_to}
+use Rattle.cdf_edits.proofs.Edits.LeafPieces.{IsOneOf}
+use Rattle.cdf_format.specs.Stored.{packed_bytes}
+use Rattle.cdf_var_records.proofs.LeafBytes.{block_long, packed_fits, packed_inside, packed_small, piece_long}
 use Rattle.cdf_var_records.proofs.LeafItems.{by_leaf, in_index}
+use Rattle.cdf_puts.proofs.PutBytes.{found_covering}
 use Rattle.cdf_var_records.proofs.PreviousRecord.{last_stored, none_stored}
 use Rattle.cdf_var_records.proofs.RecordForms.{among, image, pad_lies}
 use Rattle.cdf_var_records.proofs.PadSites.{own}
@@ -32,9 +33,6 @@ some_if : {A : Type 0} (p : Bool) (o : Option A) (a : A) → (if p then o else N
 some_if true o a e = e
 some_if false o a e = absurd (cc e)
 
-pub piece_long : (xs : List ℕ) (at n : ℕ) → at + n ≤ length xs → length (take n (drop at xs)) ≡ n
-piece_long xs at n le = omega (arith, length-take n (drop at xs), length-drop at xs)
-
 -- ---- a variable of a good image
 
 module _ {b : List ℕ} {kind : Kind} {vdr : ℕ} (good : Good b) (v : IsVdr b kind vdr) where
@@ -42,15 +40,36 @@ module _ {b : List ℕ} {kind : Kind} {vdr : ℕ} (good : Good b) (v : IsVdr b k
   variable = variable_at b vdr
 
   module _ (rec : ℕ) (leaf : Leaf) (found : leaf_in b vdr rec ≡ Some (seen leaf)) where
-    pub holding : HoldsRecords b leaf (record_bytes b vdr) × (leaf.first ≤ rec) × (rec ≤ leaf.last)
-    holding =
-        let g = among good v in
-        let sound = good_is_sound b good in
-        let here = in_index good v rec ∙ some_if (nat_lt rec (extent (max_rec_at b vdr))) (leaf_of rec (leaves_of (index_at b (number b vdr vdr_vxr_head)))) (seen leaf) found in
-        let is = λ (x : VariableShape). is_compressed b x.vdr ≡ false in
-        let loose = (Each-split is g.front (own good v ∷ g.rest) (subst (Each is) g.all (all_loose b (variables (shape b)) (good_is_read b good)))).1.0 in
-        let plain = plain_block b (shape b) g.front (own good v) g.rest (image good v) sound g.all loose rec (seen leaf) here in
-        good_block b (shape b) g.front (own good v) g.rest (image good v) sound g.all rec leaf here plain
+    -- it is one of the index
+    named : leaf_of rec (leaves_of (index_at b (number b vdr vdr_vxr_head))) ≡ Some (seen leaf)
+    named = some_if (nat_lt rec (extent (max_rec_at b vdr))) (leaf_of rec (leaves_of (index_at b (number b vdr vdr_vxr_head)))) (seen leaf) found
+
+    here : leaf_of rec (leaves_of (own good v).index) ≡ Some (seen leaf)
+    here = in_index good v rec ∙ named
+
+    own_leaf : IsOneOf (leaves_of (own good v).index) (seen leaf) × ((leaf.first ≤ rec) × (rec ≤ leaf.last))
+    own_leaf = found_covering rec (leaves_of (own good v).index) (seen leaf) here
+
+    pub between : (leaf.first ≤ rec) × (rec ≤ leaf.last)
+    between = own_leaf.1
+
+    pub holding : leaf.packed ≡ false → HoldsRecords b leaf (record_bytes b vdr)
+    holding plain = let g = among good v in (good_block b (shape b) g.front (own good v) g.rest (image good v) (good_is_sound b good) g.all rec leaf here plain).0
+
+    -- where its block is packed
+    module _ (packed : leaf.packed ≡ true) where
+      pub held_inside : leaf.at + 24 + number b leaf.at cvvr_c_size ≤ length b
+      held_inside = packed_inside good v (seen leaf) own_leaf.0 packed
+
+      pub held_fits : unpacks_to (packed_bytes b leaf.at) ((leaf.last + 1 - leaf.first) * record_bytes b vdr) ≡ true
+      held_fits = packed_fits good v (seen leaf) own_leaf.0 packed
+
+      pub held_small : (leaf.last + 1 - leaf.first) * record_bytes b vdr ≤ record_limit
+      held_small = packed_small good v (seen leaf) own_leaf.0 packed
+
+    -- it is one of those of the block
+    pub among_others : (rec - leaf.first) * record_bytes b vdr + record_bytes b vdr ≤ (leaf.last + 1 - leaf.first) * record_bytes b vdr
+    among_others = let there : (rec - leaf.first) + 1 ≤ leaf.last + 1 - leaf.first = omega (arith, between.0, between.1) in omega (arith, mul-le-mul_right (record_bytes b vdr) there)
 
     -- the bytes of the record, as they are stored
     abbrev pub stored : List ℕ
@@ -60,9 +79,7 @@ module _ {b : List ℕ} {kind : Kind} {vdr : ℕ} (good : Good b) (v : IsVdr b k
     stored_long =
         let size = record_bytes b vdr in
         let k = rec - leaf.first in
-        let h = holding in
-        let there : k + 1 ≤ leaf.last + 1 - leaf.first = omega (arith, h.1, h.2) in
-        ap length (sym (record_is b leaf size rec vdr h.0 h.1 h.2 refl)) ∙ piece_long b (leaf.at + (12 + k * size)) size (omega (arith, mul-le-mul_right size there, h.0.inside))
+        piece_long (plain_bytes b vdr (seen leaf)) (k * size) size (omega (arith, among_others, block_long good v (seen leaf) own_leaf.0))
 
     pub stored_whole : length stored % size_of (type_of_variable b vdr) ≡ 0
     stored_whole =

@@ -3,3 +3,4 @@ pub mod Next
 pub mod Previous
 pub mod Records
 pub mod Room
+pub mod Unpacked

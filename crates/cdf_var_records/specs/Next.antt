@@ -15,6 +15,7 @@ use Rattle.cdf_var_records.specs.Records.{IsForm}
 use Rattle.cdf_var_records.specs.declared.next.Located.{Located}
 use Rattle.cdf_var_records.specs.declared.next.RecordReader.{RecordReader}
 use Rattle.cdf_var_records.specs.declared.next.Stored.{Stored}
+use Rattle.cdf_var_records.specs.Unpacked.{IsUnpacked}
 
 -- the records from a number on begin with this one; or there is none
 abbrev pub NextIs : ℕ → List (ℕ × List ℕ) → Option Stored → Type 0
@@ -49,3 +50,4 @@ pub record IsReader (b : List ℕ) (reader : RecordReader) : Type 0 where
   pub is_form : IsForm b reader.form
   pub extent_is : reader.extent ≡ extent (max_rec_at b reader.form.place.vdr)
   pub leaf_is : IfSome reader.leaf (HasLeaf (leaves_at b reader.form.place.vdr))
+  pub kept : IsUnpacked b reader.unpacked

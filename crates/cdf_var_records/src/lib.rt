@@ -9,6 +9,7 @@ mod pad_place;
 mod previous;
 mod put_room;
 mod record;
+mod unpacked;
 mod variable;
 
 pub use bad_shape::{are_bad_sizes, is_bad_shape};
@@ -21,4 +22,5 @@ pub use put_room::{has_put_room, read_block_count, read_first_written};
 pub use record::{
     is_out_of_range, read_pad_record, read_record, record_size_of, value_size, values_of,
 };
+pub use unpacked::Unpacked;
 pub use variable::{read_sparse, read_variable};

@@ -15,6 +15,7 @@ ghost use Rattle.cdf_var_records.specs.Records.{variable_at};
 use crate::extent::read_extent;
 use crate::form::{Form, read_form};
 use crate::record::read_in_leaf;
+use crate::unpacked::Unpacked;
 use cdf_area::{Area, AreaError};
 use cdf_format::fields::VDR_VXR_HEAD;
 use cdf_index::Leaf;
@@ -45,6 +46,8 @@ pub struct RecordReader {
     pub extent: u32,
     /// The leaf that has the record that was read last.
     pub leaf: Option<Leaf>,
+    /// What is kept of its block, if it is packed.
+    pub unpacked: Unpacked,
 }
 
 /// The first record from a number on and before an end that a leaf of an index has. Of its top chain a node may be known.
@@ -101,6 +104,7 @@ impl RecordReader {
             form,
             extent,
             leaf: None,
+            unpacked: Unpacked::new(),
         })
     }
 
@@ -169,7 +173,14 @@ impl RecordReader {
             return Ok(None);
         };
         self.leaf = Some(found.leaf);
-        let bytes = read_in_leaf(alloc, area, &self.form, &found.leaf, found.num)?;
+        let bytes = read_in_leaf(
+            alloc,
+            area,
+            &mut self.unpacked,
+            &self.form,
+            &found.leaf,
+            found.num,
+        )?;
         Ok(Some(Stored {
             num: found.num,
             bytes,

@@ -22,9 +22,11 @@ ghost use Rattle.cdf_puts.specs.Starts.{InTopChain, IsKnownStart};
 ghost use Rattle.cdf_var_records.specs.Next.{leaves_at};
 ghost use Rattle.cdf_var_records.specs.Previous.{HasLevels, entries_of, last_begun, leaves_named, leaves_until};
 ghost use Rattle.cdf_var_records.specs.Records.{IsForm, variable_at};
+ghost use Rattle.cdf_var_records.specs.Unpacked.{IsUnpacked};
 
 use crate::form::Form;
 use crate::record::{read_in_leaf, read_pad_record};
+use crate::unpacked::Unpacked;
 use crate::variable::read_sparse;
 use cdf_area::{Area, AreaError};
 use cdf_format::fields::{CVVR_TYPE, VDR_VXR_HEAD, VXR_FIRST, VXR_TYPE};
@@ -209,6 +211,7 @@ fn find_previous<A: Area>(
 fn read_previous<A: Area>(
     alloc: Global,
     area: &mut A,
+    unpacked: &mut Unpacked,
     form: &Form,
     known: Option<u64>,
     rec: u32,
@@ -216,15 +219,17 @@ fn read_previous<A: Area>(
     requires good { Good (A.image area.old) }
     requires short { length (A.image area.old) ≤ image_limit }
     requires form { IsForm (A.image area.old) form.now }
+    requires kept { IsUnpacked (A.image area.old) unpacked.old }
     requires known { IsKnownStart (A.image area.old) form.now.place.vdr known }
     requires within { rec < extent (max_rec_at (A.image area.old) form.now.place.vdr) }
     requires gone { None ≡ item_at rec (variable_at (A.image area.old) form.now.place.vdr).recs }
     ensures record { IfOk result (λ bytes. bytes.items ≡ missing sparse.Previous (variable_at (A.image area.old) form.now.place.vdr) rec) }
+    ensures kept { IsUnpacked (A.image area.old) unpacked.new }
     ensures area { Reads A.image A.frame A.faults A.edited area.old area.new result }
 {
     let found = find_previous(area, form.place.vdr, known, rec)?;
     match found {
-        Some(leaf) => read_in_leaf(alloc, area, form, &leaf, leaf.last),
+        Some(leaf) => read_in_leaf(alloc, area, unpacked, form, &leaf, leaf.last),
         None => read_pad_record(alloc, area, form),
     }
 }
@@ -234,6 +239,7 @@ fn read_previous<A: Area>(
 pub fn read_missing<A: Area>(
     alloc: Global,
     area: &mut A,
+    unpacked: &mut Unpacked,
     form: &Form,
     known: Option<u64>,
     rec: u32,
@@ -241,15 +247,17 @@ pub fn read_missing<A: Area>(
     requires good { Good (A.image area.old) }
     requires short { length (A.image area.old) ≤ image_limit }
     requires form { IsForm (A.image area.old) form.now }
+    requires kept { IsUnpacked (A.image area.old) unpacked.old }
     requires known { IsKnownStart (A.image area.old) form.now.place.vdr known }
     requires within { rec < extent (max_rec_at (A.image area.old) form.now.place.vdr) }
     requires gone { None ≡ item_at rec (variable_at (A.image area.old) form.now.place.vdr).recs }
     ensures record { IfOk result (λ bytes. bytes.items ≡ missing (variable_at (A.image area.old) form.now.place.vdr).sparse (variable_at (A.image area.old) form.now.place.vdr) rec) }
+    ensures kept { IsUnpacked (A.image area.old) unpacked.new }
     ensures area { Reads A.image A.frame A.faults A.edited area.old area.new result }
 {
     let rule = read_sparse(area, form.place.vdr)?;
     match rule {
-        Sparse::Previous => read_previous(alloc, area, form, known, rec),
+        Sparse::Previous => read_previous(alloc, area, unpacked, form, known, rec),
         Sparse::NoRule | Sparse::Pad => read_pad_record(alloc, area, form),
     }
 }

@@ -18,6 +18,7 @@ ghost use Rattle.cdf_puts.specs.Searching.{IsSearch};
 ghost use Rattle.cdf_puts.specs.Starts.{InTopChain, IsKnownStart, IsWithin, KnowsStarts};
 ghost use Rattle.cdf_var_records.specs.Room.{ExpectsPut, IsStretch, count_in_block, put_room_at, room_by, room_in};
 ghost use Rattle.cdf_var_records.specs.Records.{IsForm, variable_at};
+ghost use Rattle.cdf_format.specs.Shape.{is_compressed};
 
 use crate::extent::read_extent;
 use crate::form::Form;
@@ -291,6 +292,7 @@ pub fn has_put_room<A: Area>(
     requires good { Good (A.image area.old) }
     requires short { length (A.image area.old) ≤ image_limit }
     requires form { IsForm (A.image area.old) form.now }
+    requires unpacked { is_compressed (A.image area.old) form.now.place.vdr ≡ false }
     requires known { IsKnownStart (A.image area.old) form.now.place.vdr known }
     requires starts { KnowsStarts (A.image area.old) starts.old }
     requires within { rec ≤ record_number_limit }

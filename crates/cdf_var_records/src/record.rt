@@ -1,15 +1,17 @@
 //! What a record of a variable reads as.
 
-ghost use Rattle.std.specs.Prelude.{◌≡◌, ◌+◌, ◌*◌, ◌%◌, ◌<◌, ◌≤◌, ℕ, List, length, if◌then◌else◌, IfOk, Some};
+ghost use Rattle.std.specs.Prelude.{◌≡◌, ◌+◌, ◌*◌, ◌%◌, ◌<◌, ◌≤◌, ℕ, List, ◌-◌, length, if◌then◌else◌, IfOk, Some};
 ghost use Rattle.std.specs.List.{repeat};
 ghost use Rattle.std.specs.Option.{option_map};
 ghost use Rattle.cdf_area.specs.Calls.{Reads};
+ghost use Rattle.cdf_format.specs.Content.{plain_bytes};
 ghost use Rattle.cdf_format.specs.Fields.{has_bit, number};
 ghost use Rattle.cdf_format.specs.Records.{vdr_pad_bit, vdr_variance_bit, vdr_vxr_head, past, vdr_name};
-ghost use Rattle.cdf_format.specs.VariableFields.{max_rec_at};
+ghost use Rattle.cdf_format.specs.VariableFields.{max_rec_at, record_bytes};
 ghost use Rattle.cdf_format.specs.WellFormed.{Good};
 ghost use Rattle.cdf_index.specs.Finding.{HasIndex};
 ghost use Rattle.cdf_index.specs.Order.{leaf_of};
+ghost use Rattle.cdf_index.specs.Reading.{record_in};
 ghost use Rattle.cdf_index.specs.Sight.{seen};
 ghost use Rattle.cdf_model.specs.ByteOrder.{turned};
 ghost use Rattle.cdf_model.specs.DataSet.{extent};
@@ -23,10 +25,12 @@ ghost use Rattle.cdf_model.specs.Types.{size_of};
 ghost use Rattle.cdf_puts.specs.Starts.{IsKnownStart};
 ghost use Rattle.cdf_var_records.specs.Next.{leaves_at};
 ghost use Rattle.cdf_var_records.specs.Records.{IsForm, IsRecordShape, leaf_in, variable_at};
+ghost use Rattle.cdf_var_records.specs.Unpacked.{IsUnpacked};
 
 use crate::extent::read_extent;
 use crate::form::Form;
 use crate::previous::read_missing;
+use crate::unpacked::Unpacked;
 use cdf_area::{Area, AreaError};
 use cdf_format::fields::{VDR_PAD_BIT, VDR_VARIANCE_BIT, VDR_VXR_HEAD};
 use cdf_format::flags::has_bit;
@@ -181,11 +185,11 @@ pub fn read_pad_record<A: Area>(
     Ok(bytes)
 }
 
-/// A record, in network order, out of the leaf that has it.
-#[tactic(auto, using(cdf_area::proofs::Calls::read_done, cdf_area::proofs::Calls::read_failed, cdf_area::proofs::Calls::read_more, cdf_area::proofs::Calls::read_once))]
-pub fn read_in_leaf<A: Area>(
+/// A record, as it is stored, out of the leaf that has it.
+fn read_raw<A: Area>(
     alloc: Global,
     area: &mut A,
+    unpacked: &mut Unpacked,
     form: &Form,
     leaf: &Leaf,
     rec: u32,
@@ -193,12 +197,41 @@ pub fn read_in_leaf<A: Area>(
     requires good { Good (A.image area.old) }
     requires short { length (A.image area.old) ≤ image_limit }
     requires form { IsForm (A.image area.old) form.now }
+    requires kept { IsUnpacked (A.image area.old) unpacked.old }
     requires leaf { Some (seen leaf.now) ≡ leaf_in (A.image area.old) form.now.place.vdr rec }
-    ensures record { IfOk result (λ bytes. Some bytes.items ≡ item_at rec (variable_at (A.image area.old) form.now.place.vdr).recs) }
+    ensures bytes { IfOk result (λ bytes. bytes.items ≡ record_in (plain_bytes (A.image area.old) form.now.place.vdr (seen leaf.now)) (record_bytes (A.image area.old) form.now.place.vdr) (rec - leaf.now.first)) }
+    ensures kept { IsUnpacked (A.image area.old) unpacked.new }
     ensures area { Reads A.image A.frame A.faults A.edited area.old area.new result }
 {
     let size = record_size_of(&form.shape);
-    let raw = read_rec(alloc, area, leaf, size, rec)?;
+    if !leaf.packed {
+        return read_rec(alloc, area, leaf, size, rec);
+    }
+    let from = (rec - leaf.first) as u64 * size;
+    let all = (leaf.last as u64 + 1 - leaf.first as u64) * size;
+    unpacked.read_part(alloc, area, leaf.at, all, from, size)
+}
+
+/// A record, in network order, out of the leaf that has it.
+#[tactic(auto, using(cdf_area::proofs::Calls::read_done, cdf_area::proofs::Calls::read_failed, cdf_area::proofs::Calls::read_more, cdf_area::proofs::Calls::read_once))]
+pub fn read_in_leaf<A: Area>(
+    alloc: Global,
+    area: &mut A,
+    unpacked: &mut Unpacked,
+    form: &Form,
+    leaf: &Leaf,
+    rec: u32,
+) -> Result<Vec<u8>, AreaError>
+    requires good { Good (A.image area.old) }
+    requires short { length (A.image area.old) ≤ image_limit }
+    requires form { IsForm (A.image area.old) form.now }
+    requires kept { IsUnpacked (A.image area.old) unpacked.old }
+    requires leaf { Some (seen leaf.now) ≡ leaf_in (A.image area.old) form.now.place.vdr rec }
+    ensures record { IfOk result (λ bytes. Some bytes.items ≡ item_at rec (variable_at (A.image area.old) form.now.place.vdr).recs) }
+    ensures kept { IsUnpacked (A.image area.old) unpacked.new }
+    ensures area { Reads A.image A.frame A.faults A.edited area.old area.new result }
+{
+    let raw = read_raw(alloc, area, unpacked, form, leaf, rec)?;
     Ok(in_network_order(form.place.t, form.encoding, raw))
 }
 
@@ -227,6 +260,7 @@ fn find_stored<A: Area>(
 fn read_stored<A: Area>(
     alloc: Global,
     area: &mut A,
+    unpacked: &mut Unpacked,
     form: &Form,
     known: Option<u64>,
     rec: u32,
@@ -234,16 +268,18 @@ fn read_stored<A: Area>(
     requires good { Good (A.image area.old) }
     requires short { length (A.image area.old) ≤ image_limit }
     requires form { IsForm (A.image area.old) form.now }
+    requires kept { IsUnpacked (A.image area.old) unpacked.old }
     requires known { IsKnownStart (A.image area.old) form.now.place.vdr known }
     requires within { rec < extent (max_rec_at (A.image area.old) form.now.place.vdr) }
     ensures record { IfOk result (λ found. option_map (λ bytes. bytes.items) found ≡ item_at rec (variable_at (A.image area.old) form.now.place.vdr).recs) }
+    ensures kept { IsUnpacked (A.image area.old) unpacked.new }
     ensures area { Reads A.image A.frame A.faults A.edited area.old area.new result }
 {
     let found = find_stored(area, form.place.vdr, known, rec)?;
     let Some(leaf) = found else {
         return Ok(None);
     };
-    let bytes = read_in_leaf(alloc, area, form, &leaf, rec)?;
+    let bytes = read_in_leaf(alloc, area, unpacked, form, &leaf, rec)?;
     Ok(Some(bytes))
 }
 
@@ -253,6 +289,7 @@ fn read_stored<A: Area>(
 pub fn read_record<A: Area>(
     alloc: Global,
     area: &mut A,
+    unpacked: &mut Unpacked,
     form: &Form,
     known: Option<u64>,
     rec: u32,
@@ -260,8 +297,10 @@ pub fn read_record<A: Area>(
     requires good { Good (A.image area.old) }
     requires short { length (A.image area.old) ≤ image_limit }
     requires form { IsForm (A.image area.old) form.now }
+    requires kept { IsUnpacked (A.image area.old) unpacked.old }
     requires known { IsKnownStart (A.image area.old) form.now.place.vdr known }
     ensures record { IfOk result (λ bytes. bytes.items ≡ read (variable_at (A.image area.old) form.now.place.vdr) rec) }
+    ensures kept { IsUnpacked (A.image area.old) unpacked.new }
     ensures area { Reads A.image A.frame A.faults A.edited area.old area.new result }
 {
     let number = number_of(form.place.flags, rec);
@@ -269,9 +308,9 @@ pub fn read_record<A: Area>(
     if number >= extent {
         return read_pad_record(alloc, area, form);
     }
-    let stored = read_stored(alloc, area, form, known, number)?;
+    let stored = read_stored(alloc, area, unpacked, form, known, number)?;
     match stored {
         Some(bytes) => Ok(bytes),
-        None => read_missing(alloc, area, form, known, number),
+        None => read_missing(alloc, area, unpacked, form, known, number),
     }
 }

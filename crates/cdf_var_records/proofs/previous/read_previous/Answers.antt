@@ -1,6 +1,7 @@
-use Rattle.cdf_var_records.proofs.Common.{Good, IfOk-weaker, List, Previous, Some, ap, item_at, leaf_in, missing, pad_record, subst, sym, variable_at, ◌∙◌, ◌≡◌}
+use Rattle.cdf_var_records.proofs.Common.{Good, IfOk-weaker, List, Previous, Some, ap, item_at, leaf_in, missing, pad_record, subst, sym, variable_at, ◌∙◌, ◌≡◌, ℕ}
 use Rattle.cdf_var_records.proofs.RecordReading.{index, last_there, lies, reads_last, reads_none}
 use Rattle.cdf_var_records.proofs.previous.read_previous.Goals as goal
+use Rattle.cdf_var_records.specs.Unpacked.{IsUnpacked}
 
 pub find_previous-requires-clause-lies : goal.find_previous-requires-clause-lies
 find_previous-requires-clause-lies g c = lies c.requires.good c.requires.form
@@ -10,6 +11,9 @@ find_previous-requires-clause-index g c = index c.requires.good c.requires.form
 
 pub read_in_leaf-requires-clause-good : goal.read_in_leaf-requires-clause-good
 read_in_leaf-requires-clause-good g c = subst Good (sym c.find_previous.ensures.area.image) c.requires.good
+
+pub read_in_leaf-requires-clause-kept : goal.read_in_leaf-requires-clause-kept
+read_in_leaf-requires-clause-kept g c = subst (λ (x : List ℕ). IsUnpacked x c.args.unpacked.now) (sym c.find_previous.ensures.area.image) c.requires.kept
 
 pub read_in_leaf-requires-clause-leaf : goal.read_in_leaf-requires-clause-leaf
 read_in_leaf-requires-clause-leaf g c =

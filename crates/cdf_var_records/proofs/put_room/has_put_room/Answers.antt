@@ -28,12 +28,12 @@ pub count_uncovered-requires-clause-order : goal.count_uncovered-requires-clause
 count_uncovered-requires-clause-order g c = leaves_rise c.requires.good c.requires.form c.args.rec c.read_unsigned8.ensures.area.image c.in_ok-head.ensures.value
 
 pub returns-then-missing-eq0-clause-fits : goal.returns-then-missing-eq0-clause-fits
-returns-then-missing-eq0-clause-fits g c = λ e. omega (arith, none_there c.requires.good c.requires.form c.args.rec c.in_ok-missing.missing (rw (c.read_unsigned8.ensures.area.image, c.in_ok-head.ensures.value) at c.in_ok-missing.ensures.count) c.if-missing-eq0.true)
+returns-then-missing-eq0-clause-fits g c = λ e. omega (arith, none_there c.requires.good c.requires.form c.args.rec c.in_ok-missing.missing (rw (c.read_unsigned8.ensures.area.image, c.in_ok-head.ensures.value) at c.in_ok-missing.ensures.count) c.requires.unpacked c.if-missing-eq0.true)
 
 pub returns-then-missing-eq0-clause-expects : goal.returns-then-missing-eq0-clause-expects
 returns-then-missing-eq0-clause-expects g c =
     let there = known_there c.requires.starts c.args.form.now.place.vdr c.requires.good (vdr_there c.requires.good c.requires.form.is_vdr) in
-    λ e. none_expected c.requires.good c.requires.form c.args.rec c.in_ok-missing.missing (rw (c.read_unsigned8.ensures.area.image, c.in_ok-head.ensures.value) at c.in_ok-missing.ensures.count) c.args.starts.now there c.if-missing-eq0.true
+    λ e. none_expected c.requires.good c.requires.form c.args.rec c.in_ok-missing.missing (rw (c.read_unsigned8.ensures.area.image, c.in_ok-head.ensures.value) at c.in_ok-missing.ensures.count) c.requires.unpacked c.args.starts.now there c.if-missing-eq0.true
 
 pub read_block_count-requires-clause-good : goal.read_block_count-requires-clause-good
 read_block_count-requires-clause-good g c = subst Good (sym (c.count_uncovered.ensures.area.image ∙ c.read_unsigned8.ensures.area.image)) c.requires.good
@@ -60,7 +60,7 @@ room_is : (g : Over) (c : After-keep_bound g) → put_room (v c.requires.good c.
 room_is g c =
     let counted = c.count_uncovered.ensures.area.image ∙ c.read_unsigned8.ensures.area.image in
     let count = c.in_ok-count.ensures.count ∙ ap (λ (x : List _). block_count (variable_at x c.args.form.now.place.vdr)) counted in
-    blocks_there c.requires.good c.requires.form c.args.rec c.in_ok-missing.missing (rw (c.read_unsigned8.ensures.area.image, c.in_ok-head.ensures.value) at c.in_ok-missing.ensures.count)
+    blocks_there c.requires.good c.requires.form c.args.rec c.in_ok-missing.missing (rw (c.read_unsigned8.ensures.area.image, c.in_ok-head.ensures.value) at c.in_ok-missing.ensures.count) c.requires.unpacked
     (made g c) count (c.record_size_of-size.ensures ∙ record_size_is c.requires.good c.requires.form) (λ i. c.in_ok-missing.missing)
 
 pub returns-clause-fits : goal.returns-clause-fits

@@ -1,6 +1,7 @@
-use Rattle.cdf_var_records.proofs.Common.{Good, IfOk-weaker, extent, max_rec_at, missing, pad_record, read, subst, sym, variable_at, ◌<◌, ◌∙◌, ◌≡◌, ◌≤◌, arith}
+use Rattle.cdf_var_records.proofs.Common.{Good, IfOk-weaker, extent, max_rec_at, missing, pad_record, read, subst, sym, variable_at, ◌<◌, ◌∙◌, ◌≡◌, ◌≤◌, arith, List, ℕ}
 use Rattle.cdf_var_records.proofs.RecordReading.{lies, reads_missing, reads_past, reads_stored}
 use Rattle.cdf_var_records.proofs.record.read_record.Goals as goal
+use Rattle.cdf_var_records.specs.Unpacked.{IsUnpacked}
 
 pub read_extent-requires : goal.read_extent-requires
 read_extent-requires g c = let l = lies c.requires.good c.requires.form in omega arith
@@ -20,6 +21,9 @@ returns-then-number-extent-clause-record g c =
 pub read_stored-requires-clause-good : goal.read_stored-requires-clause-good
 read_stored-requires-clause-good g c = subst Good (sym c.read_extent.ensures.area.image) c.requires.good
 
+pub read_stored-requires-clause-kept : goal.read_stored-requires-clause-kept
+read_stored-requires-clause-kept g c = subst (λ (x : List ℕ). IsUnpacked x c.args.unpacked.now) (sym c.read_extent.ensures.area.image) c.requires.kept
+
 pub returns-in-Some-clause-record : goal.returns-in-Some-clause-record
 returns-in-Some-clause-record g c =
     let b = g.A.Area.image c.args.area.now in
@@ -28,6 +32,9 @@ returns-in-Some-clause-record g c =
 
 pub read_missing-requires-clause-good : goal.read_missing-requires-clause-good
 read_missing-requires-clause-good g c = subst Good (sym (c.read_stored.ensures.area.image ∙ c.read_extent.ensures.area.image)) c.requires.good
+
+pub read_missing-requires-clause-kept : goal.read_missing-requires-clause-kept
+read_missing-requires-clause-kept g c = subst (λ (x : List ℕ). IsUnpacked x c.read_stored.new.unpacked) (sym c.read_stored.ensures.area.image) c.read_stored.ensures.kept
 
 pub returns-in-None-clause-record : goal.returns-in-None-clause-record
 returns-in-None-clause-record g c =

@@ -1,5 +1,6 @@
-use Rattle.cdf_var_records.proofs.Common.{Good, IsForm, List, ap, leaf_in, option_map, seen, subst, sym, ◌∙◌}
+use Rattle.cdf_var_records.proofs.Common.{Good, IsForm, List, ap, leaf_in, option_map, seen, subst, sym, ◌∙◌, ℕ}
 use Rattle.cdf_var_records.proofs.LeafItems.{leaf_there}
+use Rattle.cdf_var_records.specs.Unpacked.{IsUnpacked}
 use Rattle.cdf_var_records.proofs.RecordReading.{index, lies, no_record}
 use Rattle.cdf_var_records.proofs.record.read_stored.Goals as goal
 
@@ -14,6 +15,9 @@ returns-in_default-clause-record g c = no_record c.requires.good c.requires.form
 
 pub read_in_leaf-requires-clause-good : goal.read_in_leaf-requires-clause-good
 read_in_leaf-requires-clause-good g c = subst Good (sym c.find_stored.ensures.area.image) c.requires.good
+
+pub read_in_leaf-requires-clause-kept : goal.read_in_leaf-requires-clause-kept
+read_in_leaf-requires-clause-kept g c = subst (λ (x : List ℕ). IsUnpacked x c.args.unpacked.now) (sym c.find_stored.ensures.area.image) c.requires.kept
 
 pub read_in_leaf-requires-clause-form : goal.read_in_leaf-requires-clause-form
 read_in_leaf-requires-clause-form g c = subst (λ (x : List _). IsForm x c.args.form.now) (sym c.find_stored.ensures.area.image) c.requires.form

@@ -15,4 +15,5 @@ returns-clause-reader g c =
       is_form = c.in_ok-form.ensures.form;
       extent_is = c.in_ok-extent.ensures.extent ∙ (λ i. extent (max_rec_at (c.read_form.ensures.area.image i) (sym there i)));
       leaf_is = tt;
+      kept = c.new.ensures (g.A.Area.image c.args.area.now);
     }

@@ -1,6 +1,7 @@
 use Rattle.cdf_var_records.proofs.Common.{Good, IsForm, List, ap, arith, leaf_in, subst, sym, ℕ, ◌∙◌}
 use Rattle.cdf_var_records.proofs.NextRecord.{comes_next, few_records, located_in, none_left}
 use Rattle.cdf_var_records.proofs.next.RecordReader.read_next.Goals as goal
+use Rattle.cdf_var_records.specs.Unpacked.{IsUnpacked}
 
 pub returns-in_default-clause-next : goal.returns-in_default-clause-next
 returns-in_default-clause-next g c =
@@ -9,6 +10,9 @@ returns-in_default-clause-next g c =
 
 pub read_in_leaf-requires-clause-good : goal.read_in_leaf-requires-clause-good
 read_in_leaf-requires-clause-good g c = subst Good (sym c.find.ensures.area.image) c.requires.good
+
+pub read_in_leaf-requires-clause-kept : goal.read_in_leaf-requires-clause-kept
+read_in_leaf-requires-clause-kept g c = subst (λ (x : List ℕ). IsUnpacked x c.args.self.now.unpacked) (sym c.find.ensures.area.image) c.requires.reader.kept
 
 pub read_in_leaf-requires-clause-form : goal.read_in_leaf-requires-clause-form
 read_in_leaf-requires-clause-form g c = subst (λ (x : List ℕ). IsForm x c.args.self.now.form) (sym c.find.ensures.area.image) c.requires.reader.is_form
@@ -35,10 +39,10 @@ pub returns-clause-reader : goal.returns-clause-reader
 returns-clause-reader g c =
     let r = c.requires.reader in
     let first = rw c.in-Some.is at c.in_ok-found.ensures.found in
-    record { is_form = r.is_form; extent_is = r.extent_is; leaf_is = (c.in-Some.found.num, first.has) }
+    record { is_form = r.is_form; extent_is = r.extent_is; leaf_is = (c.in-Some.found.num, first.has); kept = subst (λ (x : List ℕ). IsUnpacked x c.read_in_leaf.new.unpacked) c.find.ensures.area.image c.read_in_leaf.ensures.kept }
 
 pub returns-in_err-bytes-clause-reader : goal.returns-in_err-bytes-clause-reader
 returns-in_err-bytes-clause-reader g c =
     let r = c.requires.reader in
     let first = rw c.in-Some.is at c.in_ok-found.ensures.found in
-    record { is_form = r.is_form; extent_is = r.extent_is; leaf_is = (c.in-Some.found.num, first.has) }
+    record { is_form = r.is_form; extent_is = r.extent_is; leaf_is = (c.in-Some.found.num, first.has); kept = subst (λ (x : List ℕ). IsUnpacked x c.read_in_leaf.new.unpacked) c.find.ensures.area.image c.read_in_leaf.ensures.kept }
