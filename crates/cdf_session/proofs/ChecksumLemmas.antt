@@ -18,6 +18,7 @@ use Rattle.cdf_puts.specs.declared.starts.Starts.{Starts}
 use Rattle.cdf_session.proofs.OpenLemmas.{starts_known, attributes_known, variables_known}
 use Rattle.md5.specs.Md5.{md5 as md5_of}
 use Rattle.std.proofs.lemmas.List.{take_all}
+use Rattle.cdf_session.proofs.StepsRead.{follows_read}
 
 -- ---- Flags are written
 
@@ -74,7 +75,7 @@ module _ (b now : List ℕ) (md5 : Bool) (good : Good b) (flags_are : flags now 
       let limited = was.limited in
       let knows = attributes_known b now (commands.Checksum md5) known (record { not_on_attributes = refl; on_no_entry = λ d n kind. refl }) good (leads (omega arith)) was.knows in
       let variables = variables_known b now (commands.Checksum md5) vars refl good (leads (omega arith)) was.knows_variables in
-      let there : IsOpen now frame known vars = record { good = (leads (omega arith)).good; fits = omega arith; limited = limited; unmarked = was.unmarked; knows = knows; knows_variables = variables } in
+      let there : IsOpen now frame known vars = record { good = (leads (omega arith)).good; read = follows_read {b = b} {now = now} {c = commands.Checksum md5} good was.read refl (leads (omega arith)); fits = omega arith; limited = limited; unmarked = was.unmarked; knows = knows; knows_variables = variables } in
       subst (λ (f : Frame _). IsOpen now f known vars) (sym kept) there
 
   -- the nodes that are known stay too

@@ -1,5 +1,6 @@
 pub mod Common
 pub mod HeadLemmas
+pub mod StepsRead
 pub mod OpenLemmas
 pub mod ChecksumLemmas
 pub mod AdoptLemmas

@@ -4,6 +4,8 @@ use Rattle.cdf_vars.specs.Known.{Known as KnownVariables, Knows as KnowsVariable
 use Rattle.cdf_base.specs.Bytes.{put}
 use Rattle.cdf_format.proofs.NewFileRules.{new_is_good, new_length}
 use Rattle.cdf_session.proofs.OpenLemmas.{frame_back}
+use Rattle.cdf_format.specs.NotRead.{IsRead}
+use Rattle.cdf_session.proofs.StepsRead.{new_is_read}
 
 -- bytes that are appended in two parts
 pub in_two : (old between now front back whole : List ℕ) → front ++ back ≡ whole → between ≡ old ++ front → now ≡ between ++ back → now ≡ old ++ whole
@@ -43,5 +45,5 @@ new_open start now kept frame marked between end known vars unmarked room limit 
     let f : end ≡ frame = frame_back frame between end start unmarked (same ∙ is) ends in
     let there : kept ≡ new_image = stays ∙ new in
     let fits : length kept ≤ frame.limit = let n : length kept ≡ 404 = ap (λ (b : List ℕ). length b) there ∙ new_length in omega arith in
-    let open_there : IsOpen kept frame known vars = record { good = good_new kept there; fits = fits; limited = limit; unmarked = unmarked; knows = subst (λ (x : List ℕ). Knows x known) (sym there) named; knows_variables = subst (λ (x : List ℕ). KnowsVariables x vars) (sym there) variables } in
+    let open_there : IsOpen kept frame known vars = record { good = good_new kept there; read = subst IsRead (sym there) new_is_read; fits = fits; limited = limit; unmarked = unmarked; knows = subst (λ (x : List ℕ). Knows x known) (sym there) named; knows_variables = subst (λ (x : List ℕ). KnowsVariables x vars) (sym there) variables } in
     transport (λ i. IsOpen kept (sym f i) known vars) open_there

@@ -17,7 +17,10 @@ use Rattle.cdf_model.specs.declared.command.Command.{Command}
 use Rattle.cdf_model.specs.declared.command.Command.TheVariants as commands
 use Rattle.cdf_model.specs.declared.head.Head.{Head}
 use Rattle.cdf_model.specs.declared.item.Item.{Item}
+use Rattle.cdf_format.specs.NotRead.{IsRead}
 use Rattle.cdf_format.specs.Shape.{Each, VariableShape, variables}
+use Rattle.cdf_session.proofs.StepsRead.{follows_read}
+use Rattle.cdf_session.specs.Built.{built}
 use Rattle.cdf_model.specs.declared.kinds.EntryKind.{EntryKind}
 use Rattle.cdf_model.specs.declared.kinds.Kind.TheVariants.{R, Z}
 use Rattle.std.proofs.Common.{ap₂}
@@ -33,7 +36,7 @@ stays_open b now frame after known vars was same kept = transport (λ i. IsOpen 
 -- the same, with other entries kept
 pub reads_open : {U : Type 0} (b now : List ℕ) (frame after : Frame U) (known known' : Known) (vars : KnownVariables) → IsOpen b frame known vars → now ≡ b → after ≡ frame → Knows now known' → IsOpen now after known' vars
 reads_open b now frame after known known' vars was same kept knows =
-    let there : IsOpen b frame known' vars = record { good = was.good; fits = was.fits; limited = was.limited; unmarked = was.unmarked; knows = subst (λ (x : List ℕ). Knows x known') same knows; knows_variables = was.knows_variables } in
+    let there : IsOpen b frame known' vars = record { good = was.good; read = was.read; fits = was.fits; limited = was.limited; unmarked = was.unmarked; knows = subst (λ (x : List ℕ). Knows x known') same knows; knows_variables = was.knows_variables } in
     transport (λ i. IsOpen (sym same i) (sym kept i) known' vars) there
 
 pub good_stays : (b now : List ℕ) → Good b → now ≡ b → Good now
@@ -148,40 +151,41 @@ some_same : (b now : List ℕ) → Some b ≡ Some now → now ≡ b
 some_same b now e = cc e
 
 -- It was carried out and kept, or it was not and all was taken back. The facts are those that the calls between give.
-pub ends_known : {U : Type 0} (b start made now : List ℕ) (frame first marked end : Frame U) (known after : Known) (vars vars' : KnownVariables) (c : Command) (done : Result Outcome AreaError)
+pub ends_known : {U : Type 0} (b start made now : List ℕ) (frame first marked end : Frame U) (known after : Known) (vars vars' : KnownVariables) (c : Command) → built c ≡ true → (done : Result Outcome AreaError)
     → IsOpen b frame known vars → start ≡ b → first ≡ with_base frame (Some b) → marked ≡ first → end ≡ with_base marked None → IfOk done (λ o. Answers first.limit start c o made)
     → OnOk done (Knows made after) → OnErr done (Knows start after) → OnOk done (KnowsVariables made vars') → OnErr done (KnowsVariables start vars')
     → OnOk done (now ≡ made) → OnErr done (marked.base ≡ Some now) → IsOpen now end after vars'
-ends_known b start made now frame first marked end known after vars vars' c (Ok o) was begins is stays ends answers knows stay knows_variables stay_variables kept undone =
+ends_known b start made now frame first marked end known after vars vars' c there_is (Ok o) was begins is stays ends answers knows stay knows_variables stay_variables kept undone =
     let f = frame_back frame marked end b was.unmarked (stays ∙ is) ends in
     let limit : first.limit ≡ frame.limit = ap (λ (m : Frame _). m.limit) is in
     let answered : Answers frame.limit b c o made = transport (λ i. Answers (limit i) (begins i) c o made) answers in
     let good = answered_good frame.limit b made c o answered was.good was.fits in
-    let there : IsOpen made frame after vars' = record { good = good.0; fits = good.1; limited = was.limited; unmarked = was.unmarked; knows = knows; knows_variables = knows_variables } in
+    let read = answered_so IsRead frame.limit b made c o answered was.read (follows_read {b = b} {now = made} {c = c} was.good was.read there_is) in
+    let there : IsOpen made frame after vars' = record { good = good.0; read = read; fits = good.1; limited = was.limited; unmarked = was.unmarked; knows = knows; knows_variables = knows_variables } in
     transport (λ i. IsOpen (sym kept i) (sym f i) after vars') there
-ends_known b start made now frame first marked end known after vars vars' c (Err error) was begins is stays ends answers knows stay knows_variables stay_variables kept undone =
+ends_known b start made now frame first marked end known after vars vars' c there_is (Err error) was begins is stays ends answers knows stay knows_variables stay_variables kept undone =
     let f = frame_back frame marked end b was.unmarked (stays ∙ is) ends in
     let back : now ≡ b = some_same b now (sym (ap (λ (m : Frame _). m.base) (stays ∙ is)) ∙ undone) in
-    let there : IsOpen start frame after vars' = record { good = good_stays b start was.good begins; fits = subst (λ (x : List ℕ). length x ≤ frame.limit) (sym begins) was.fits; limited = was.limited; unmarked = was.unmarked; knows = stay; knows_variables = stay_variables } in
+    let there : IsOpen start frame after vars' = record { good = good_stays b start was.good begins; read = subst IsRead (sym begins) was.read; fits = subst (λ (x : List ℕ). length x ≤ frame.limit) (sym begins) was.fits; limited = was.limited; unmarked = was.unmarked; knows = stay; knows_variables = stay_variables } in
     transport (λ i. IsOpen ((begins ∙ sym back) i) (sym f i) after vars') there
 
 -- of a command on attributes
-pub ends_open : {U : Type 0} (b start made now : List ℕ) (frame first marked end : Frame U) (known after : Known) (vars : KnownVariables) (c : Command) → is_on_variables c ≡ false → (done : Result Outcome AreaError)
+pub ends_open : {U : Type 0} (b start made now : List ℕ) (frame first marked end : Frame U) (known after : Known) (vars : KnownVariables) (c : Command) → is_on_variables c ≡ false → built c ≡ true → (done : Result Outcome AreaError)
     → IsOpen b frame known vars → start ≡ b → first ≡ with_base frame (Some b) → marked ≡ first → end ≡ with_base marked None
     → IfOk done (λ o. Answers first.limit start c o made) → OnOk done (Knows made after) → OnErr done (Knows start after)
     → OnOk done (now ≡ made) → OnErr done (marked.base ≡ Some now) → IsOpen now end after vars
-ends_open b start made now frame first marked end known after vars c other done was begins is stays ends answers knows stay kept undone =
-    ends_known b start made now frame first marked end known after vars vars c done was begins is stays ends answers knows stay
+ends_open b start made now frame first marked end known after vars c other there_is done was begins is stays ends answers knows stay kept undone =
+    ends_known b start made now frame first marked end known after vars vars c there_is done was begins is stays ends answers knows stay
     (variables_after first.limit b start made c vars other was.good was.knows_variables begins done answers)
     (on_err done (subst (λ (x : List ℕ). KnowsVariables x vars) (sym begins) was.knows_variables)) kept undone
 
 -- of a command on variables
-pub ends_on_variables : {U : Type 0} (b start made now : List ℕ) (frame first marked end : Frame U) (known : Known) (vars vars' : KnownVariables) (c : Command) → LeavesEntries c → (done : Result Outcome AreaError)
+pub ends_on_variables : {U : Type 0} (b start made now : List ℕ) (frame first marked end : Frame U) (known : Known) (vars vars' : KnownVariables) (c : Command) → LeavesEntries c → built c ≡ true → (done : Result Outcome AreaError)
     → IsOpen b frame known vars → start ≡ b → first ≡ with_base frame (Some b) → marked ≡ first → end ≡ with_base marked None
     → IfOk done (λ o. Answers first.limit start c o made) → OnOk done (KnowsVariables made vars') → OnErr done (KnowsVariables start vars')
     → OnOk done (now ≡ made) → OnErr done (marked.base ≡ Some now) → IsOpen now end known vars'
-ends_on_variables b start made now frame first marked end known vars vars' c other done was begins is stays ends answers knows stay kept undone =
-    ends_known b start made now frame first marked end known known vars vars' c done was begins is stays ends answers
+ends_on_variables b start made now frame first marked end known vars vars' c other there_is done was begins is stays ends answers knows stay kept undone =
+    ends_known b start made now frame first marked end known known vars vars' c there_is done was begins is stays ends answers
     (attributes_after first.limit b start made c known other was.good was.knows begins done answers)
     (on_err done (subst (λ (x : List ℕ). Knows x known) (sym begins) was.knows)) knows stay kept undone
 
@@ -195,21 +199,21 @@ back_at_start : {U : Type 0} (b start now : List ℕ) (frame first marked : Fram
 back_at_start b start now frame first marked begins is stays done undone = on_err_weaker done (λ base. some_same b now (sym (ap (λ (m : Frame _). m.base) (stays ∙ is)) ∙ base) ∙ sym begins) undone
 
 -- of a command on variables by which none comes, goes or gets another name or place
-pub ends_on_own : {U : Type 0} (b start made now : List ℕ) (frame first marked end : Frame U) (known : Known) (vars : KnownVariables) (c : Command) → LeavesEntries c → (done : Result Outcome AreaError)
+pub ends_on_own : {U : Type 0} (b start made now : List ℕ) (frame first marked end : Frame U) (known : Known) (vars : KnownVariables) (c : Command) → LeavesEntries c → built c ≡ true → (done : Result Outcome AreaError)
     → IsOpen b frame known vars → start ≡ b → first ≡ with_base frame (Some b) → marked ≡ first → end ≡ with_base marked None
     → IfOk done (λ o. Answers first.limit start c o made) → OnOk done (KnowsVariables made vars)
     → OnOk done (now ≡ made) → OnErr done (marked.base ≡ Some now) → IsOpen now end known vars
-ends_on_own b start made now frame first marked end known vars c other done was begins is stays ends answers knows kept undone =
-    ends_on_variables b start made now frame first marked end known vars vars c other done was begins is stays ends answers knows
+ends_on_own b start made now frame first marked end known vars c other there_is done was begins is stays ends answers knows kept undone =
+    ends_on_variables b start made now frame first marked end known vars vars c other there_is done was begins is stays ends answers knows
     (on_err done (subst (λ (x : List ℕ). KnowsVariables x vars) (sym begins) was.knows_variables)) kept undone
 
 -- of such a command, with the nodes that are kept
-pub ends_on_records : {U : Type 0} (b start made now : List ℕ) (frame first marked end : Frame U) (known : Known) (vars : KnownVariables) (starts : Starts) (c : Command) → LeavesEntries c → (done : Result Outcome AreaError)
+pub ends_on_records : {U : Type 0} (b start made now : List ℕ) (frame first marked end : Frame U) (known : Known) (vars : KnownVariables) (starts : Starts) (c : Command) → LeavesEntries c → built c ≡ true → (done : Result Outcome AreaError)
     → IsOpen b frame known vars → start ≡ b → first ≡ with_base frame (Some b) → marked ≡ first → end ≡ with_base marked None
     → IfOk done (λ o. Answers first.limit start c o made) → OnOk done (KnowsVariables made vars) → OnOk done (KnowsStarts made starts) → OnErr done (KnowsStarts start starts)
     → OnOk done (now ≡ made) → OnErr done (marked.base ≡ Some now) → IsOpen now end known vars × KnowsStarts now starts
-ends_on_records b start made now frame first marked end known vars starts c other done was begins is stays ends answers knows knows_starts starts_stay kept undone = (
-  ends_on_own b start made now frame first marked end known vars c other done was begins is stays ends answers knows kept undone,
+ends_on_records b start made now frame first marked end known vars starts c other there_is done was begins is stays ends answers knows knows_starts starts_stay kept undone = (
+  ends_on_own b start made now frame first marked end known vars c other there_is done was begins is stays ends answers knows kept undone,
   ends_starting start made now starts done knows_starts starts_stay kept (back_at_start b start now frame first marked begins is stays done undone),
 )
 
@@ -223,9 +227,9 @@ ends_with_starts b start made now frame first marked starts after c other done g
     (back_at_start b start now frame first marked begins is stays done undone))
 
 -- of a command on neither
-pub ends_on_neither : {U : Type 0} (b start made now : List ℕ) (frame first marked end : Frame U) (known : Known) (vars : KnownVariables) (c : Command) → LeavesEntries c → is_on_variables c ≡ false → (done : Result Outcome AreaError)
+pub ends_on_neither : {U : Type 0} (b start made now : List ℕ) (frame first marked end : Frame U) (known : Known) (vars : KnownVariables) (c : Command) → LeavesEntries c → is_on_variables c ≡ false → built c ≡ true → (done : Result Outcome AreaError)
     → IsOpen b frame known vars → start ≡ b → first ≡ with_base frame (Some b) → marked ≡ first → end ≡ with_base marked None
     → IfOk done (λ o. Answers first.limit start c o made) → OnOk done (now ≡ made) → OnErr done (marked.base ≡ Some now) → IsOpen now end known vars
-ends_on_neither b start made now frame first marked end known vars c other not_variables done was begins is stays ends answers kept undone =
-    ends_on_own b start made now frame first marked end known vars c other done was begins is stays ends answers
+ends_on_neither b start made now frame first marked end known vars c other not_variables there_is done was begins is stays ends answers kept undone =
+    ends_on_own b start made now frame first marked end known vars c other there_is done was begins is stays ends answers
     (variables_after first.limit b start made c vars not_variables was.good was.knows_variables begins done answers) kept undone

@@ -6,6 +6,7 @@ use Rattle.cdf_base.specs.Causes.{Rose}
 use Rattle.cdf_attrs.specs.Known.{Known, Knows}
 use Rattle.cdf_vars.specs.Known.{Known as KnownVariables, Knows as KnowsVariables}
 use Rattle.cdf_edits.specs.Answers.{Answers}
+use Rattle.cdf_format.specs.NotRead.{IsRead}
 use Rattle.cdf_format.specs.Sealed.{image_of}
 use Rattle.cdf_format.specs.WellFormed.{Good, WellFormed, Breaks}
 use Rattle.cdf_model.specs.declared.answer.LineError.TheVariants.{UnknownWord}
@@ -18,9 +19,10 @@ use Rattle.cdf_session.specs.declared.refusal.AdoptError.{AdoptError}
 use Rattle.cdf_session.specs.declared.refusal.AdoptError.TheVariants as errors
 use Rattle.cdf_session.specs.declared.refusal.Refusal.{Refusal}
 
--- between two commands: a good image within the limit, no mark, and what is known of its attributes and of its variables
+-- between two commands: a good image within the limit, of which all is read so far, no mark, and what is known of its attributes and of its variables
 pub record IsOpen {U : Type 0} (b : List ℕ) (frame : Frame U) (attributes : Known) (variables : KnownVariables) : Type 0 where
   pub good : Good b
+  pub read : IsRead b
   pub fits : length b ≤ frame.limit
   pub limited : frame.limit ≤ image_limit
   pub unmarked : frame.base ≡ None

@@ -48,8 +48,9 @@ impl<A: Area> Session<A> {
         ensures answers { IfOk result (λ o. Answers (A.frame self.old).limit (A.image self.old) (Command.GetRec var.now rec) o (A.image self.new)) }
         ensures area { Reads A.image A.frame A.faults A.edited self.old self.new result }
     {
+        let kept = &mut self.kept;
         self.vars
-            .get_rec(&mut self.area, &mut self.kept.starts, var, rec)
+            .get_rec(&mut self.area, &mut kept.starts, &mut kept.view, var, rec)
     }
 
     /// The command `put-val`.
@@ -88,7 +89,14 @@ impl<A: Area> Session<A> {
         ensures answers { IfOk result (λ o. Answers (A.frame self.old).limit (A.image self.old) (Command.GetVal var.now rec index.now) o (A.image self.new)) }
         ensures area { Reads A.image A.frame A.faults A.edited self.old self.new result }
     {
-        self.vars
-            .get_val(&mut self.area, &mut self.kept.starts, var, rec, index)
+        let kept = &mut self.kept;
+        self.vars.get_val(
+            &mut self.area,
+            &mut kept.starts,
+            &mut kept.view,
+            var,
+            rec,
+            index,
+        )
     }
 }

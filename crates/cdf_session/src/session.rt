@@ -8,6 +8,7 @@ ghost use Rattle.cdf_edits.specs.Follows.{only_reads};
 ghost use Rattle.cdf_format.specs.NewFile.{new_image, new_size};
 ghost use Rattle.cdf_format.specs.Owners.{space_of as taken_by};
 ghost use Rattle.cdf_format.specs.Shape.{shape};
+ghost use Rattle.cdf_format.specs.Sealed.{sealed};
 ghost use Rattle.cdf_format.specs.WellFormed.{Good, WellFormed};
 ghost use Rattle.cdf_model.specs.Limits.{image_limit};
 ghost use Rattle.cdf_model.specs.Sayable.{Sayable};
@@ -266,6 +267,7 @@ impl<A: Area> Session<A> {
     pub fn into_area(self) -> A
         ensures area { result ≡ self }
         ensures good { Good (A.image result) }
+        ensures well_formed { WellFormed (sealed (A.image result)) }
         ensures fits { length (A.image result) ≤ image_limit }
     {
         self.area

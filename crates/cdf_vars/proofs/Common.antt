@@ -106,7 +106,6 @@ pub use Rattle.cdf_model.specs.declared.kinds.Kind.{Kind}
 pub use Rattle.cdf_model.specs.declared.kinds.Kind.TheVariants.{R, Z}
 pub use Rattle.cdf_model.specs.declared.kinds.Sparse.TheVariants.{NoRule}
 pub use Rattle.cdf_names.specs.Names.{has_name, last_to, number_of}
-pub use Rattle.cdf_edits.proofs.Edits.StandsAmong.{loose}
 pub use Rattle.cdf_puts.proofs.RaisedGoes.{raised_shape, vdr_no_gdr}
 pub use Rattle.cdf_puts.specs.Putting.{IsPut, PutsUpTo, Putting, SomePutting, most_in_block}
 pub use Rattle.cdf_puts.specs.Steps.{MaxRecRaised}

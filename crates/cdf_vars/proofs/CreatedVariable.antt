@@ -1,11 +1,10 @@
 -- A new variable: the making of its VDR leads from a good image to the one that follows, what is known of the variables then, and what the command is answered.
-use Rattle.cdf_vars.proofs.Common.{Act, All, AllKeep, Allowances, Answers, ByStep, Chain, DataSet, Does, Done, Follows, Go, Good, HasDims, HasShape, Hold, In, IsBody, IsGoodByShape, IsSound, JoinsVdr, Keeps, Kind, KnowsKind, List, MakesVariable, NewVariable, Only, OthersStay, OwnRules, Plain, R, Refused, Same, Shape, Some, TooLarge, Took, Variable, VariableLives, VariableShape, VariableSplices, Z, [], allowances, ap, apart_if, append-nil, arith, attributes_kept, behind_link, beside_in, bytes_eq, content, content_is, content_now, count_of, counted_before, counted_in, edit, ends, eq-eqb, false, file, fills, fine_has_no_zeros, fine_is_short, fine_is_some, flat_map, gdr_is, gdr_place, gone, good_by_its_shape, good_image_if, good_is_sound, got-middle, if◌then◌else◌, image_limit, inl, is_among, is_bad_name, is_bad_shape, is_vdr_body, joined_acts, joined_size, joined_splices, joined_type, kind_ours, kind_type, leaves_of, length, linked, lives, made_keeps_unused, made_once, making, map, map-append, marks, member_in, name_in, new_variable, next_field, nodes_of, number, numbers_kept, nums_from, of_kind, only_of, only_reads, owned, owned_once_if, r_sizes, refl, room, same_as_itself, same_kind, shape, shape_is, shape_now, shapes_of, size_at, slice_get, spliced_times, step, subst, sym, t, the_one, times, times-none, too_large, true, true≢false, type_at, type_in, type_of_body, used_times, var_step, variable_changes, variable_names, variable_of, variable_records, variables_chain, variables_of, variables_of_are, vdr_body, vdr_bytes, vdr_name, vdr_type, vdrs, vdrs_append, vdrs_rows, vdrs_rows-push, with_shapes, with_variables, ℕ, ◌++◌, ◌+◌, ◌<◌, ◌^◌, ◌∙◌, ◌∷◌, ◌≡◌, ◌≢◌, ◌≤◌}
-use Rattle.std.specs.Prelude.{not}
+use Rattle.cdf_vars.proofs.Common.{Act, All, AllKeep, Allowances, Answers, ByStep, Chain, DataSet, Does, Done, Follows, Go, Good, HasDims, HasShape, Hold, In, IsBody, IsGoodByShape, IsSound, JoinsVdr, Keeps, Kind, KnowsKind, List, MakesVariable, NewVariable, Only, OthersStay, OwnRules, Plain, R, Refused, Same, Shape, Some, TooLarge, Took, Variable, VariableLives, VariableShape, VariableSplices, Z, [], allowances, ap, apart_if, append-nil, arith, attributes_kept, behind_link, beside_in, bytes_eq, content, content_is, content_now, count_of, counted_before, counted_in, edit, ends, eq-eqb, false, file, fills, fine_has_no_zeros, fine_is_short, fine_is_some, flat_map, gdr_is, gdr_place, gone, good_by_its_shape, good_image_if, good_is_sound, got-middle, if◌then◌else◌, image_limit, inl, is_among, is_bad_name, is_bad_shape, is_vdr_body, joined_acts, joined_size, joined_splices, joined_type, kind_ours, kind_type, leaves_of, length, linked, lives, made_keeps_unused, made_once, making, map, map-append, marks, member_in, name_in, new_variable, next_field, nodes_of, number, numbers_kept, nums_from, of_kind, only_of, only_reads, owned, owned_once_if, r_sizes, refl, room, same_as_itself, same_kind, shape, shape_is, shape_now, shapes_of, size_at, slice_get, spliced_times, step, subst, sym, t, the_one, times, times-none, too_large, true, true≢false, type_at, type_in, type_of_body, used_times, var_step, variable_changes, variable_names, variable_of, variable_records, variables_chain, variables_of, variables_of_are, vdr_body, vdr_bytes, vdr_name, vdr_type, vdrs, vdrs_append, vdrs_rows, vdrs_rows-push, with_shapes, with_variables, ℕ, ◌++◌, ◌+◌, ◌<◌, ◌^◌, ◌∙◌, ◌∷◌, ◌≡◌, ◌≢◌, ◌≤◌, sealed_kept, good_long, rules_of_good}
 use Rattle.cdf_edits.proofs.Common.{members_of}
 use Rattle.cdf_edits.specs.Space.Adding.{Added}
 use Rattle.cdf_edits.proofs.Edits.VariablesLinked.{keep_numbered, keep_with_kind, next_keeps, other_stays}
 use Rattle.cdf_vars.proofs.VariableChains.{counted_members, variable_members, few_variables}
-use Rattle.cdf_vars.proofs.NewVdr.{IsNewVdr, IsShaped, Shares, bare_variable, end_is, has, length-body, means, name_is, ruled, shaped, type_in_body, varys_written, vdr_written, unpacked}
+use Rattle.cdf_vars.proofs.NewVdr.{IsNewVdr, IsShaped, Shares, bare_variable, end_is, has, length-body, means, name_is, ruled, shaped, type_in_body, varys_written, vdr_written}
 use Rattle.cdf_vars.proofs.VariableFound.{kind_with, others_with}
 use Rattle.cdf_vars.proofs.OwnShapes.{own_now}
 use Rattle.cdf_vars.proofs.VariableNames.{absent_from}
@@ -157,7 +156,6 @@ module _ (b : List ℕ) (kind : Kind) (v : NewVariable) (limit : ℕ) (image : G
             apart = apart_if sound splices good (λ x y i j ne. absurd (ne (the_one place x i ∙ sym (the_one place y j))))
                 (λ x y i j. subst (λ (n : List ℕ). bytes_eq n (name_in b y vdr_name) ≡ false) (sym (ap (λ (m : ℕ). name_in now m vdr_name) (the_one place x i) ∙ named)) (absent_from b image v.name free y (beside_in sound splices y j)));
             own_ruled = (ruled new is new_type shares records new_size no_zero (fine_is_some v.name well_named), tt);
-            own_read = (ap not (unpacked new is new_type shares), tt);
             owned = owned_once_if b now s made (marks sound w) (place ∷ []) sound good.owned_once (edit sound w) (λ m out. omega (arith, owners m, times-none m (place ∷ []) out))
                 (λ m i. inl (made_once sound (fills sound w) added.linked added.as_long (t sound w).lately made 0 (owners place) refl m i));
           }
@@ -184,7 +182,7 @@ module _ (b : List ℕ) (kind : Kind) (v : NewVariable) (limit : ℕ) (image : G
           record {
             reply = Plain;
             goes = (is_making b kind v dims).step_is ∙ rw (well_named, free, fine) (ap (λ (d : DataSet). ByStep (Go d Plain)) (sym content_is_made));
-            good = good_image_if sound splices image good (own_rules free) (ends sound w) (omega arith);
+            good = good_image_if sound splices (sealed_kept b (good_long b s good) (rules_of_good b image)).0 good (own_rules free) (ends sound w) (omega arith);
             longer = (edit sound w).longer;
             within = subst (λ (n : ℕ). length now ≤ length b + n) (sym (is_making b kind v dims).room_is) longest;
             reads = λ q. absurd (true≢false (sym q ∙ (is_making b kind v dims).makes));

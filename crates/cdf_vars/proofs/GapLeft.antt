@@ -1,5 +1,5 @@
 -- Records of a variable that has a rule for missing records were deleted: the images on the way are good, and the last one follows the command, where MaxRec is written or stays.
-use Rattle.cdf_vars.proofs.Common.{DataSet, Follows, Good, IsTarget, IsVdr, Kind, Known, Knows, List, Some, Target, Variable, VariableShape, ap, arith, cases_lt, cast_unsigned, inl, inr, content, extent, good_is_sound, got-map, got-middle, image_limit, is_max_rec, length, map, max_rec_at, record_bytes, shape, shapes_of, slice_get, subst, sym, target_found, true, variable_at, variable_named, variable_of, variables_of, vdrs, with_sign, with_variable, ℕ, ◌+◌, ◌-◌, ◌<◌, ◌∙◌, ◌≡◌, ◌≢◌, ◌≤◌, index_at, number, vdr_vxr_head, w32}
+use Rattle.cdf_vars.proofs.Common.{DataSet, Follows, Good, IsTarget, IsVdr, Kind, Known, Knows, List, Some, Target, Variable, VariableShape, ap, arith, cases_lt, cast_unsigned, inl, inr, content, extent, good_is_sound, got-map, got-middle, image_limit, is_max_rec, length, map, max_rec_at, record_bytes, shape, shapes_of, slice_get, subst, sym, target_found, true, variable_at, variable_named, variable_of, variables_of, vdrs, with_sign, with_variable, ℕ, ◌+◌, ◌-◌, ◌<◌, ◌∙◌, ◌≡◌, ◌≢◌, ◌≤◌, index_at, number, vdr_vxr_head, w32, false}
 use Rattle.cdf_edits.specs.Commands.Room.{cut_room}
 use Rattle.cdf_edits.specs.Index.Blocks.{extent_after, is_sparse}
 use Rattle.cdf_edits.specs.Space.Acts.{Act}
@@ -18,6 +18,8 @@ use Rattle.cdf_vars.proofs.RecordsDeleted.{last_back, last_ruled, name_stays}
 use Rattle.cdf_vars.proofs.VariableFound.{knows_now}
 use Rattle.cdf_vars.proofs.VariableNames.{variables_are}
 use Rattle.cdf_vars.specs.Puts.{MaxRecWrites}
+use Rattle.cdf_format.specs.Shape.{is_compressed}
+use Rattle.cdf_puts.proofs.GoesThen.{later_loose}
 
 -- what the open cut takes fits where the whole command does
 pub opening_fits : {b : List ℕ} {t : Target} {limit rec_bytes first last : ℕ} (good : Good b) (is : IsTarget b t) → first ≤ last → rec_bytes ≡ record_bytes b t.form.place.vdr
@@ -80,6 +82,9 @@ module _ {b : List ℕ} {t : Target} (good : Good b) (is : IsTarget b t) (rule :
 
     pub mid_short : length mid ≤ image_limit
     mid_short = image_short x.opened.goes.good x.opened.goes.among
+
+    pub mid_unpacked : is_compressed mid vdr ≡ false
+    mid_unpacked = ap (is_compressed mid) (sym mid_is) ∙ later_loose good is.among x.opened.goes x.opened.loose
 
     pub mid_vdr : IsVdr mid kind vdr
     mid_vdr = vdr_on kind is.vdr_is x.opened.goes

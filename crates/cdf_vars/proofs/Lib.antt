@@ -5,6 +5,7 @@ pub mod NewVdr
 pub mod NextEvents
 pub mod OwnShapes
 pub mod RemovalAnswers
+pub mod Unpacked
 pub mod VariableChains
 pub mod VariableFound
 pub mod PadSet

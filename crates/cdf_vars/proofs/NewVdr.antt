@@ -176,7 +176,7 @@ module _ {b : List ℕ} {place : ℕ} {kind : Kind} {v : NewVariable} {num : ℕ
   unpadded : has_pad b place ≡ false
   unpadded = ap (λ (n : ℕ). has_bit n 1) new.says.1.1.1.1.0 ∙ (flag_says v.vary).1
 
-  pub unpacked : is_compressed b place ≡ false
+  unpacked : is_compressed b place ≡ false
   unpacked = ap (λ (n : ℕ). has_bit n 2) new.says.1.1.1.1.0 ∙ (flag_says v.vary).2
 
   pub end_is : vdr_end b place ≡ vdr_bytes kind (length v.dims)

@@ -1,4 +1,4 @@
--- The next record of a variable, as an event.
+-- The next record of a variable, as an event, and what is kept of those that were read last.
 use Rattle.cdf_vars.proofs.Common.{Form, List, None, Option, Some, Variable, ap, subst, sym, variable_at, ℕ, ◌<◌, ◌∙◌, ◌≡◌}
 use Rattle.cdf_model.specs.declared.event.Event.{Event}
 use Rattle.cdf_model.specs.declared.event.Event.TheVariants as events
@@ -6,7 +6,19 @@ use Rattle.cdf_var_records.specs.Next.{NextIs}
 use Rattle.cdf_var_records.specs.declared.next.RecordReader.{RecordReader}
 use Rattle.cdf_var_records.specs.declared.next.Stored.{Stored}
 use Rattle.cdf_vars.specs.declared.vars.VarId.{VarId}
-use Rattle.cdf_vars.specs.Events.{IsNextOf, ReadsFrom, ShowsNext, variable_of_id}
+use Rattle.cdf_var_records.specs.Unpacked.{IsUnpacked}
+use Rattle.cdf_var_records.specs.declared.unpacked.Unpacked.{Unpacked}
+use Rattle.cdf_vars.specs.Events.{IsNextOf, KnowsView, ReadsFrom, ShowsNext, variable_of_id}
+use Rattle.cdf_vars.specs.declared.record_view.LastRead.{LastRead}
+use Rattle.cdf_vars.specs.declared.record_view.RecordView.{RecordView}
+use Rattle.std.specs.Prelude.{IfSome}
+
+-- where the reader was taken out
+pub without_reader : (b : List ℕ) (old new : RecordView) → KnowsView b old → new.last ≡ None → new.unpacked ≡ old.unpacked → KnowsView b new
+without_reader b old new known gone same = record {
+  last = subst (λ (o : Option LastRead). IfSome o (λ l. ReadsFrom b l.id l.reader)) (sym gone) tt;
+  unpacked = subst (IsUnpacked b) (sym same) known.unpacked;
+}
 
 module _ {b : List ℕ} {id : VarId} {reader : RecordReader} (r : ReadsFrom b id reader) {late : List ℕ} (same : late ≡ b) (from : ℕ) where
   abbrev own : Variable

@@ -1,5 +1,5 @@
 -- A put past MaxRec + 1 of a variable that has a rule for missing records: what is past MaxRec is cut first, then the record is put, and the last image follows the command.
-use Rattle.cdf_vars.proofs.Common.{Command, Follows, Good, IsTarget, IsVdr, Kind, Known, Knows, List, MaxRecRaised, MaxRecRaises, NewRecord, PutsSo, PutsUpTo, Putting, Shape, SomePutting, Target, Variable, VariableShape, ap, arith, extent, first_written, image_limit, inl, inr, length, loose, max_rec_at, most_in_block, nat_lt, raised_shape, record_bytes, refl, shape, shapes_of, subst, sym, true, variable_at, variable_of, variables, vdrs, with_sign, ℕ, ◌+◌, ◌<◌, ◌∙◌, ◌≡◌, ◌≤◌, ◌⊎◌, IsPut, Each, cases_lt, le-ltb, true≢false}
+use Rattle.cdf_vars.proofs.Common.{Command, Follows, Good, IsTarget, IsVdr, Kind, Known, Knows, List, MaxRecRaised, MaxRecRaises, NewRecord, PutsSo, PutsUpTo, Putting, Shape, SomePutting, Target, Variable, VariableShape, ap, arith, extent, first_written, image_limit, inl, inr, length, max_rec_at, most_in_block, nat_lt, raised_shape, record_bytes, refl, shape, shapes_of, subst, sym, true, variable_at, variable_of, variables, vdrs, with_sign, ℕ, ◌+◌, ◌<◌, ◌∙◌, ◌≡◌, ◌≤◌, ◌⊎◌, IsPut, Each, cases_lt, le-ltb, true≢false}
 use Rattle.cdf_gaps.proofs.CutPutFollows.{content_then, put_rec_then, put_val_then}
 use Rattle.cdf_gaps.proofs.CutThenPut.{CutThenPut}
 use Rattle.cdf_gaps.proofs.PastStart as start
@@ -26,14 +26,14 @@ use Rattle.std.proofs.Math.Path.{transport}
 use Rattle.std.specs.Prelude.{IfSome}
 use Rattle.cdf_format.proofs.Tests.{both}
 use Rattle.cdf_edits.specs.Index.Blocks.{cuts_before_put, is_sparse}
-use Rattle.cdf_puts.proofs.GoesThen.{later_size}
+use Rattle.cdf_puts.proofs.GoesThen.{later_size, later_loose}
 use Rattle.cdf_puts.proofs.KnownStarts.{known_there, right_yet, starts_go_on}
 use Rattle.cdf_puts.specs.SoFar.{MaxRecDone, TopStays}
 use Rattle.cdf_puts.specs.Starts.{ExpectsEntries, InTopChain, IsForgotten, IsKnownOf, IsKnownStart, IsRightOf, KnowsStarts, known_of}
 use Rattle.cdf_puts.specs.declared.starts.Starts.{Starts}
-use Rattle.cdf_vars.proofs.PutRead.{IsRead, cuts_own, followed, form_vdr, index_there, knows_put, most_is, pad_is, pad_long, pad_stored, places_on, raw_is, raw_long, room_own, small, vdr_in, vdr_on}
+use Rattle.cdf_vars.proofs.PutRead.{WasRead, cuts_own, followed, form_vdr, index_there, knows_put, most_is, pad_is, pad_long, pad_stored, places_on, raw_is, raw_long, room_own, small, vdr_in, vdr_on}
 
-module _ {b : List ℕ} {t : Target} {bytes : List ℕ} {put : NewRecord} {limit : ℕ} (k : IsRead b t put.rec bytes put limit) {count : ℕ} (count_is : count ≡ extent (max_rec_at b t.form.place.vdr)) (cuts_at : cuts_before_put (variable_at b t.form.place.vdr) put.rec ≡ true) where
+module _ {b : List ℕ} {t : Target} {bytes : List ℕ} {put : NewRecord} {limit : ℕ} (k : WasRead b t put.rec bytes put limit) {count : ℕ} (count_is : count ≡ extent (max_rec_at b t.form.place.vdr)) (cuts_at : cuts_before_put (variable_at b t.form.place.vdr) put.rec ≡ true) where
   abbrev kind : Kind
   kind = t.id.kind
 
@@ -85,7 +85,7 @@ module _ {b : List ℕ} {t : Target} {bytes : List ℕ} {put : NewRecord} {limit
       start = record {
         good = cut.goes_on.good;
         among = cut.goes_on.among;
-        loose = loose cut.goes_on.good cut.goes_on.among;
+        loose = later_loose k.good is.among cut.goes_on cut.loose;
         same_ranges = start.same_now k.good is.among cut first_is rule put.rec past;
         same_nexts = start.nexts_now k.good is.among cut first_is rule put.rec past;
         small = small k;

@@ -14,6 +14,7 @@ use Rattle.cdf_var_records.proofs.PadSites.{own}
 use Rattle.cdf_vars.proofs.VariableFound.{knows_now, same_name_set}
 use Rattle.cdf_vars.proofs.VariableNames.{variables_are}
 use Rattle.cdf_vars.proofs.PutParts.{pad_is_long, whole_record}
+use Rattle.cdf_format.specs.Shape.{is_compressed}
 
 -- ---- what is kept of the variables where one has other records
 
@@ -101,8 +102,9 @@ expects_there vdr starts same is expects = transport (λ i. ExpectsPut (sym same
 
 -- ---- what holds where the record was read
 
-pub record IsRead (b : List ℕ) (t : Target) (r : ℕ) (bytes : List ℕ) (put : NewRecord) (limit : ℕ) : Type 0 where
+pub record WasRead (b : List ℕ) (t : Target) (r : ℕ) (bytes : List ℕ) (put : NewRecord) (limit : ℕ) : Type 0 where
   pub good : Good b
+  pub loose : is_compressed b t.form.place.vdr ≡ false
   pub can : CanPut b r t bytes
   pub short : length b ≤ image_limit
   pub room : HasRoom b t r limit
@@ -110,17 +112,17 @@ pub record IsRead (b : List ℕ) (t : Target) (r : ℕ) (bytes : List ℕ) (put 
 
 -- of an image that is read before
 pub is_read : {b x : List ℕ} {t : Target} {r : ℕ} {bytes : List ℕ} {put : NewRecord} {limit limit' : ℕ}
-    → x ≡ b → limit' ≡ limit → Good b → CanPut b r t bytes → HasRoom b t r limit → limit ≤ image_limit → IsNewRecord b t r bytes put → IsRead x t put.rec bytes put limit'
-is_read {b} {x} {t} {r} {bytes} {put} {limit} {limit'} same frame good can room most new =
-    let k : IsRead b t r bytes put limit = record { good = good; can = can; short = omega arith; room = room; new = new } in
-    let at_rec = subst (λ (n : ℕ). IsRead b t n bytes put limit) (sym new.rec_is) k in
-    subst (λ (y : List ℕ). IsRead y t put.rec bytes put limit') (sym same) (subst (λ (n : ℕ). IsRead b t put.rec bytes put n) (sym frame) at_rec)
+    → x ≡ b → limit' ≡ limit → Good b → is_compressed b t.form.place.vdr ≡ false → CanPut b r t bytes → HasRoom b t r limit → limit ≤ image_limit → IsNewRecord b t r bytes put → WasRead x t put.rec bytes put limit'
+is_read {b} {x} {t} {r} {bytes} {put} {limit} {limit'} same frame good loose can room most new =
+    let k : WasRead b t r bytes put limit = record { good = good; loose = loose; can = can; short = omega arith; room = room; new = new } in
+    let at_rec = subst (λ (n : ℕ). WasRead b t n bytes put limit) (sym new.rec_is) k in
+    subst (λ (y : List ℕ). WasRead y t put.rec bytes put limit') (sym same) (subst (λ (n : ℕ). WasRead b t put.rec bytes put n) (sym frame) at_rec)
 
 -- whether something is cut before
 pub cuts_there : {b x : List ℕ} {r n : ℕ} (vdr : ℕ) {cuts : Bool} → x ≡ b → n ≡ r → cuts_before_put (variable_at b vdr) r ≡ cuts → cuts_before_put (variable_at x vdr) n ≡ cuts
 cuts_there vdr same is e = (λ i. cuts_before_put (variable_at (same i) vdr) (is i)) ∙ e
 
-module _ {b : List ℕ} {t : Target} {bytes : List ℕ} {put : NewRecord} {limit : ℕ} (k : IsRead b t put.rec bytes put limit) where
+module _ {b : List ℕ} {t : Target} {bytes : List ℕ} {put : NewRecord} {limit : ℕ} (k : WasRead b t put.rec bytes put limit) where
   abbrev vdr : ℕ
   vdr = t.form.place.vdr
 

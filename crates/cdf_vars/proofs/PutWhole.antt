@@ -1,5 +1,5 @@
 -- The whole of a put before which nothing is cut: what is put under way, and that the last image follows the command.
-use Rattle.cdf_vars.proofs.Common.{Command, Each, Follows, Good, IsPut, IsTarget, IsVdr, Kind, Known, Knows, List, MaxRecRaised, MaxRecRaises, NewRecord, PutsSo, PutsUpTo, Putting, Shape, SomePutting, Target, Variable, ap, extent, false, first_written, image_limit, inl, inr, length, loose, max_rec_at, raised_shape, shape, shapes_of, subst, sym, variable_at, variable_of, variables, vdrs, with_sign, ℕ, ◌+◌, ◌<◌, ◌∙◌, ◌≡◌, ◌≤◌, ◌⊎◌}
+use Rattle.cdf_vars.proofs.Common.{Command, Each, Follows, Good, IsPut, IsTarget, IsVdr, Kind, Known, Knows, List, MaxRecRaised, MaxRecRaises, NewRecord, PutsSo, PutsUpTo, Putting, Shape, SomePutting, Target, Variable, ap, extent, false, first_written, image_limit, inl, inr, length, max_rec_at, raised_shape, shape, shapes_of, subst, sym, variable_at, variable_of, variables, vdrs, with_sign, ℕ, ◌+◌, ◌<◌, ◌∙◌, ◌≡◌, ◌≤◌, ◌⊎◌}
 use Rattle.std.proofs.Math.Path.{transport}
 use Rattle.std.specs.Prelude.{IfSome}
 use Rattle.cdf_edits.specs.Commands.Room.{uncovered}
@@ -13,11 +13,12 @@ use Rattle.cdf_puts.proofs.KnownStarts.{right_yet, starts_go_on}
 use Rattle.cdf_puts.specs.SoFar.{MaxRecDone}
 use Rattle.cdf_puts.proofs.DoneBytes.{put_content, put_rec_done, put_val_done}
 use Rattle.cdf_vars.proofs.PutTidy.{put_is_tidy}
-use Rattle.cdf_vars.proofs.PutRead.{IsRead, cuts_own, followed, index_there, knows_put, most_is, pad_is, pad_long, pad_stored, places_on, raw_is, raw_long, room_own, small, vdr_on}
+use Rattle.cdf_vars.proofs.PutRead.{WasRead, cuts_own, followed, index_there, knows_put, most_is, pad_is, pad_long, pad_stored, places_on, raw_is, raw_long, room_own, small, vdr_on}
+use Rattle.cdf_format.specs.Shape.{is_compressed}
 
 -- ---- a put before which nothing is cut
 
-module _ {b : List ℕ} {t : Target} {bytes : List ℕ} {put : NewRecord} {limit : ℕ} (k : IsRead b t put.rec bytes put limit) (uncut_at : cuts_before_put (variable_at b t.form.place.vdr) put.rec ≡ false) where
+module _ {b : List ℕ} {t : Target} {bytes : List ℕ} {put : NewRecord} {limit : ℕ} (k : WasRead b t put.rec bytes put limit) (uncut_at : cuts_before_put (variable_at b t.form.place.vdr) put.rec ≡ false) where
   abbrev kind : Kind
   kind = t.id.kind
 
@@ -38,7 +39,7 @@ module _ {b : List ℕ} {t : Target} {bytes : List ℕ} {put : NewRecord} {limit
     start = record {
       good = k.good;
       among = is.among;
-      loose = loose k.good is.among;
+      loose = ap (is_compressed b) is.vdr_is ∙ k.loose;
       same_ranges = uncut_ranges v is.own.index put.rec uncut;
       same_nexts = λ m le. uncut_nexts v is.own.index put.rec m uncut;
       small = small k;

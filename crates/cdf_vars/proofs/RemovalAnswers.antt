@@ -1,13 +1,9 @@
 -- What the calls of the removal of a variable ask: the greatest MaxRec that is left, the numbers that are written, and the records that go; and what is kept of the variables then.
-use Rattle.cdf_vars.proofs.Common.{AreRecordsAt, DataSet, Each, Each-split, Err, FitsSigned, Good, HasIndex, HasVariable, In, In-append_left, In-append_right, IsSound, Kind, KnownKind, KnowsKind, Leaf, List, Ok, OnOk, R, RemovesVariable, Shape, Variable, VariableFits, VariableShape, VdrsLie, Z, [], ap, append_assoc, arith, at_drop_more, cast_signed, cast_unsigned, content, content_after, drop, extent, fold, freed_with_variable, get_or, good_by_its_shape, good_image, good_is_sound, greatest_at, greatest_fits, image_limit, index_at, inl, inr, last_number, leaves_of, length, length-drop, length-map, map, map-append, map-removed, max, max_rec_at, nodes_of, number, numbers_on, other_kind, refl, remove, removed-at, shape, shape_after, shapes_of, subst, suc, sym, take, take_all, this, to_z-of_z, variable_of, variables, variables_of, vdr_num, vdr_vxr_head, vdrs, vdrs_append, w32, with_field, with_shapes, with_variables, with_writes, ℕ, ℤ, ◌++◌, ◌+◌, ◌-◌, ◌<◌, ◌^◌, ◌∙◌, ◌∷◌, ◌≡◌, ◌≤◌, false}
-use Rattle.cdf_edits.proofs.Edits.VariableFrame.{IsRuled, all_ruled}
-use Rattle.cdf_format.specs.Shape.{is_compressed, variables}
-use Rattle.cdf_format.proofs.GoodSound.{good_is_read}
+use Rattle.cdf_vars.proofs.Common.{AreRecordsAt, DataSet, Each, Each-split, Err, FitsSigned, Good, HasIndex, HasVariable, In, In-append_left, In-append_right, IsSound, Kind, KnownKind, KnowsKind, Leaf, List, Ok, OnOk, R, RemovesVariable, Shape, Variable, VariableShape, VdrsLie, Z, [], ap, append_assoc, arith, at_drop_more, cast_signed, cast_unsigned, content, content_after, drop, extent, fold, freed_with_variable, get_or, good_by_its_shape, good_image, good_is_sound, greatest_at, greatest_fits, image_limit, index_at, inl, inr, last_number, leaves_of, length, length-drop, length-map, map, map-append, map-removed, max, max_rec_at, nodes_of, number, numbers_on, other_kind, refl, remove, removed-at, shape, shape_after, shapes_of, subst, suc, sym, take, take_all, this, to_z-of_z, variable_of, variables, variables_of, vdr_num, vdr_vxr_head, vdrs, vdrs_append, w32, with_field, with_shapes, with_variables, with_writes, ℕ, ℤ, ◌++◌, ◌+◌, ◌-◌, ◌<◌, ◌^◌, ◌∙◌, ◌∷◌, ◌≡◌, ◌≤◌}
+use Rattle.cdf_format.specs.Shape.{cpr_of, variables}
 use Rattle.std.proofs.Common.{Result}
 use Rattle.std.proofs.lemmas.List.{take-append-drop}
 use Rattle.std.proofs.lemmas.List.Sums.{fold-append}
-use Rattle.cdf_edits.proofs.Edits.OwnVariable.{without_cpr}
-use Rattle.cdf_edits.proofs.Edits.PlainVariables.{all_loose, is_uncompressed}
 use Rattle.cdf_index.proofs.GoodIndex.{good_index}
 use Rattle.cdf_vars.proofs.VariableNames.{variables_are}
 
@@ -81,20 +77,14 @@ module _ {b : List ℕ} (good : Good b) where
       let here : HasIndex b (number b vdr vdr_vxr_head) = subst (λ (m : ℕ). HasIndex b (number b m vdr_vxr_head)) at.vdr_is (indexed at.before at.own at.after at.is).0 in
       subst (λ (y : List ℕ). HasIndex y head) (sym same) (subst (HasIndex b) (sym head_is) here)
 
-  pub are_records : {x : List ℕ} → x ≡ b → (vdr : ℕ) → {head : ℕ} → head ≡ number b vdr vdr_vxr_head → {places records : List ℕ} → places ≡ map (λ (leaf : Leaf). leaf.place) (leaves_of (index_at x head)) ++ nodes_of (index_at x head) → records ≡ places ++ vdr ∷ [] → AreRecordsAt b vdr records
-  are_records {x = x} same vdr {head = head} head_is {places = places} {records = records} places_are all before v after is vdr_is =
+  pub are_records : {x y : List ℕ} → x ≡ b → y ≡ b → (vdr : ℕ) → {head : ℕ} → head ≡ number b vdr vdr_vxr_head → {places found records : List ℕ} → places ≡ map (λ (leaf : Leaf). leaf.place) (leaves_of (index_at x head)) ++ nodes_of (index_at x head) → found ≡ places ++ cpr_of y vdr → records ≡ found ++ vdr ∷ [] → AreRecordsAt b vdr records
+  are_records {x = x} {y = y} same then vdr {head = head} head_is {places = places} {found = found} {records = records} places_are found_is all before v after is vdr_is =
       let here = indexed before v after is in
       let head_same : head ≡ number b v.vdr vdr_vxr_head = head_is ∙ ap (λ (m : ℕ). number b m vdr_vxr_head) (sym vdr_is) in
       let index : index_at x head ≡ v.index = (λ i. index_at (same i) (head_same i)) ∙ here.1 in
       let has = (Each-split (HasVariable b (shape b).records) before (v ∷ after) (subst (Each (HasVariable b (shape b).records)) is sound.has_shape.have_variables)).1.0 in
-      let fits = (Each-split (VariableFits b (shape b).records) before (v ∷ after) (subst (Each (VariableFits b (shape b).records)) is sound.variables_fit)).1.0 in
-      let image = good_by_its_shape b good in
-      let ruled = IsRuled b (shape b).records in
-      let rules = (Each-split ruled before (v ∷ after) (subst (Each ruled) is (all_ruled b (shape b).records (vdrs (variables (shape b))) (variables (shape b)) image.of_variables image.indexes))).1.0.1 in
-      let plain = λ (x : VariableShape). is_compressed b x.vdr ≡ false in
-      let loose = (Each-split plain before (v ∷ after) (subst (Each plain) is (all_loose b (variables (shape b)) (good_is_read b good)))).1.0 in
-      all ∙ ap (λ (xs : List ℕ). xs ++ vdr ∷ []) places_are ∙ (λ i. map (λ (leaf : Leaf). leaf.place) (leaves_of (index i)) ++ nodes_of (index i) ++ sym vdr_is i ∷ [])
-      ∙ sym (without_cpr v (is_uncompressed v has fits rules loose).no_cpr)
+      let parameters : cpr_of y vdr ≡ v.cpr = (λ i. cpr_of (then i) (sym vdr_is i)) ∙ has.packed_by in
+      all ∙ ap (λ (xs : List ℕ). xs ++ vdr ∷ []) (found_is ∙ (λ i. places_are i ++ parameters i)) ∙ (λ i. map (λ (leaf : Leaf). leaf.place) (leaves_of (index i)) ++ nodes_of (index i) ++ v.cpr ++ sym vdr_is i ∷ [])
 
 -- ---- a variable of a kind
 

@@ -130,4 +130,4 @@ module _ {b now : List ℕ} {kind : Kind} {before : List VariableShape} {own : V
       let k = of_rule.ruled_vdr good at w in
       let rows = subst (λ (n : Nodes). Hold (index_rows now (shape b).records own.vdr n)) (sym none) (none_broken now (shape b).records own.vdr) in
       let rules = rules_ruled file own k none (shape b).records plain (of_le (number now own.vdr vdr_s_records) 2 (omega (arith, small, w.code_is))) (own_ruled good at x).0 in
-      good_in_place good at x w.as_long (clear kind own.vdr) (rules, rows) (packed_same file k) (named_before good at x (name_same file k)) short
+      good_in_place good at x w.as_long (clear kind own.vdr) (rules, rows) (named_before good at x (name_same file k)) short

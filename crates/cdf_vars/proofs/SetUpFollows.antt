@@ -1,6 +1,6 @@
 -- `setup` follows its command: the dimensions of a GDR and the CDR are written, what the image has by then, whatever became of the GDR, and the two ways, in its place and moved.
 use Rattle.cdf_vars.proofs.Common.{Act, ActsFollow, AllKeep, Among, AreTiles, Avoids-append, Away, Bool, Changed, DataSet, Edit, Field, Fills, FirstSays, Follows, FreedStay, Gave, Good, HasShape, Holds, In, IsChain, IsGiven, IsGoodByShape, IsHeld, IsSorted, IsSound, List, Majority, MakesGdr, Mark, MovesForRoom, Shape, StaysOrSays, Took, Unused, Within-append, WritesHeads, [], acts_none, acts_took, all_attribute_records, all_keep, all_variable_records, ap, apart, are_bad_sizes, arith, avoided, avoided-avoids, away-avoids, away-within, byte, cast_signed, cdr_encoding, cdr_flags, cdr_gdr_offset, cdr_increment, cdr_release, cdr_type, cdr_version, chain_clear, changed_put, content, content_is, content_of, counted, drop, drop-put_there, edit_then, either, encoding_at, end_now, eof, false, field_marks, filled_content, filled_edit, filled_size, filled_sound, first_hold, first_said, fixed_size, flags, gdr_adr_head, gdr_eof, gdr_fields, gdr_fits, gdr_leap_second_last_updated, gdr_nr_vars, gdr_num_attr, gdr_nz_vars, gdr_offset, gdr_r_dim_sizes, gdr_r_max_rec, gdr_r_num_dims, gdr_r_vdr_head, gdr_rfu_c, gdr_rfu_e, gdr_type, gdr_typed, gdr_uir_head, gdr_z_vdr_head, good_by_its_shape, good_eof, good_is_sound, good_long, has_bit, if◌then◌else◌, image_limit, inl, inr, is_a-from, is_empty_set, is_late, is_positive, is_record_type, is_some, keep_attributes, keep_file, keep_unused, keeps_fields, keeps_within, le-leb, leb-true, length, length-drop, length-put, length-take, length-words, list_all, list_chain, listed_before, listed_marks, loose_away, lt-leb, made_edit, majority_of, making_marks, map, mark, moved_for_room, nat_le, nat_tests, ne_eqb, none_in_use, not, number, of_4_bytes, or_cases, owned_by, owned_once_if, owned_records, part_clear, place_in, places-sized, placing_marks, put, r_num_dims, r_sizes, record_type, refl, rules_of_good, same_link, sealed_kept, second, shape, shape_is, shorter, size_at, sizes_by_tiles, small_signed, space_fields, subst, sym, takes_edit, the_one, times, touch, touched_field, true, type_at, uir_next_uir, uir_prev_uir, uir_type, unlike, unmarked-away, unused, unused_records, w32, with_bits, with_field, with_space, within, within-within, word, word-put_inside, word_kept, words, words_kept, words_laid_out, ℕ, ◌*◌, ◌++◌, ◌+◌, ◌-◌, ◌<◌, ◌==◌, ◌^◌, ◌∙◌, ◌∷◌, ◌≡◌, ◌≢◌, ◌≤◌}
-use Rattle.cdf_format.proofs.GoodSound.{good_if_read}
+use Rattle.cdf_format.proofs.SealedRules.{sealed_keeps}
 use Rattle.std.proofs.Common.{◌||◌}
 use Rattle.cdf_model.specs.declared.answer.Reply.TheVariants as replies
 use Rattle.cdf_model.specs.declared.command.Command.TheVariants as commands
@@ -279,7 +279,7 @@ module _ (b dims : List ℕ) (good : Good b) (empty : is_empty_set (content b) �
         record {
           reply = replies.Plain;
           goes = rw is.content_now (step_goes (content b) code majority dims read fine empty);
-          good = good_if_read now own (first_hold now own is.sound.has_shape is.sound.gdr_fits says (let l = is.longest in omega arith)) good_now tt;
+          good = sealed_keeps now own (first_hold now own is.sound.has_shape is.sound.gdr_fits says (let l = is.longest in omega arith)) good_now;
           longer = is.edit.longer;
           within = is.longest;
           reads = λ q. absurd cc;

@@ -1,5 +1,5 @@
 -- What `set-sparse` answers, of a variable whose descriptor was found: SRecords was written once its blocks were gone, and the last image follows the command.
-use Rattle.cdf_vars.proofs.Common.{Answers, DataSet, Done, Good, InUse, Kind, Known, Knows, LiesIn, List, Plain, Refused, Shape, VarId, Variable, ap, arith, byte, cast_signed, cast_unsigned, content, extent, false, field_reads, gone, high, image_limit, length, length-with_field, long, loose, map, max_rec_at, ne_eqb, number, other_bytes, pos, refl, refused, shapes_of, subst, sym, variable_of, variables_of, vdrs, with_field, ℕ, ℤ, ◌==◌, ◌∙◌, ◌≡◌, ◌≤◌}
+use Rattle.cdf_vars.proofs.Common.{Answers, DataSet, Done, Good, InUse, Kind, Known, Knows, LiesIn, List, Plain, Refused, Shape, VarId, Variable, ap, arith, byte, cast_signed, cast_unsigned, content, extent, false, field_reads, gone, high, image_limit, length, length-with_field, long, map, max_rec_at, ne_eqb, number, other_bytes, pos, refl, refused, shapes_of, subst, sym, variable_of, variables_of, vdrs, with_field, ℕ, ℤ, ◌==◌, ◌∙◌, ◌≡◌, ◌≤◌}
 use Rattle.std.proofs.Common.{w32}
 use Rattle.cdf_cuts.proofs.PastFollows.{none_left}
 use Rattle.cdf_cuts.specs.Past.{CutPast, cut_off}
@@ -13,6 +13,7 @@ use Rattle.cdf_sparse.specs.SetRule.{RuleWritten, SetRule, rule_code}
 use Rattle.cdf_vars.proofs.PutRead.{names_set, places_on}
 use Rattle.cdf_vars.proofs.RuledGood.{ruled_good}
 use Rattle.cdf_vars.proofs.VariableFound.{Parts, item_found, knows_now}
+use Rattle.cdf_puts.proofs.GoesThen.{later_loose}
 
 -- each code of a rule is one that SRecords may have
 small_code : (rule : Sparse) → rule_code rule ≤ 2
@@ -75,7 +76,7 @@ module _ {b : List ℕ} {name : List ℕ} {known : Known} {id : VarId} (good : G
         none_stored = none_stored;
         cut = cut;
         written = written;
-        still_good = ruled_good mid_good cut.goes_on.among written (none_left good p.at cut) (loose mid_good cut.goes_on.among) small (omega (arith, cut.long, short));
+        still_good = ruled_good mid_good cut.goes_on.among written (none_left good p.at cut) (later_loose good p.at cut.goes_on cut.loose) small (omega (arith, cut.long, short));
       }
 
       pub rule_done : (limit : ℕ) → length b ≤ limit → Answers limit b (SetSparse name rule) (Done Plain) now

@@ -13,6 +13,7 @@ use Rattle.cdf_model.specs.Spots.{from_number}
 use Rattle.cdf_model.specs.Whole.{IsWhole}
 use Rattle.cdf_var_records.specs.Next.{IsReader}
 use Rattle.cdf_var_records.specs.Records.{variable_at}
+use Rattle.cdf_var_records.specs.Unpacked.{IsUnpacked}
 use Rattle.cdf_var_records.specs.declared.next.RecordReader.{RecordReader}
 use Rattle.cdf_vars.specs.declared.record_view.RecordView.{RecordView}
 use Rattle.cdf_vars.specs.declared.vars.VarId.{VarId}
@@ -53,9 +54,10 @@ abbrev pub FindsReader : List ℕ → VarId → Option RecordReader → Type 0
 FindsReader b id (Some reader) = ReadsFrom b id reader
 FindsReader b id None = variable_of_id b id ≡ None
 
--- what is kept of the variable whose records were read last is right of an image
-abbrev pub KnowsView : List ℕ → RecordView → Type 0
-KnowsView b view = IfSome view.last (λ last. ReadsFrom b last.id last.reader)
+-- what is kept of the records that were read last is right of an image
+pub record KnowsView (b : List ℕ) (view : RecordView) : Type 0 where
+  pub last : IfSome view.last (λ last. ReadsFrom b last.id last.reader)
+  pub unpacked : IsUnpacked b view.unpacked
 
 -- ---- what holds of each variable
 

@@ -1,6 +1,6 @@
 //! The command `del-recs`: records of a variable go. Later ones close up, or keep their numbers under a rule for missing records.
 
-ghost use Rattle.std.specs.Prelude.{◌≡◌, ◌<◌, ◌≤◌, ◌^◌, ◌+◌, ℕ, List, Some, length, true, IfOk, OnOk, IsTrue};
+ghost use Rattle.std.specs.Prelude.{◌≡◌, ◌<◌, ◌≤◌, ◌^◌, ◌+◌, ℕ, List, Some, length, true, IfOk, OnOk, IsTrue, false};
 ghost use Rattle.cdf_area.specs.Calls.{Edits};
 ghost use Rattle.cdf_edits.specs.Answers.{Answers};
 ghost use Rattle.cdf_edits.specs.Commands.Room.{cut_room};
@@ -21,6 +21,8 @@ ghost use Rattle.cdf_model.specs.declared.kinds.Sparse.TheVariants.{NoRule};
 ghost use Rattle.cdf_var_records.specs.Records.{variable_at};
 ghost use Rattle.cdf_vars.specs.Known.{Knows};
 ghost use Rattle.cdf_vars.specs.Puts.{IsTarget, target_found};
+ghost use Rattle.cdf_format.specs.Shape.{is_compressed};
+ghost use Rattle.cdf_format.specs.NotRead.{IsRead};
 
 use crate::puts::Target;
 use crate::removing::last_number;
@@ -46,6 +48,7 @@ impl Vars {
         requires good { Good (A.image area.old) }
         requires known { Knows (A.image area.old) self.now }
         requires target { IsTarget (A.image area.old) target.now }
+        requires unpacked { is_compressed (A.image area.old) target.now.form.place.vdr ≡ false }
         requires free { (variable_at (A.image area.old) target.now.form.place.vdr).sparse ≡ NoRule }
         requires size { rec_bytes ≡ record_bytes (A.image area.old) target.now.form.place.vdr }
         requires count { count ≡ extent (max_rec_at (A.image area.old) target.now.form.place.vdr) }
@@ -77,6 +80,7 @@ impl Vars {
         requires good { Good (A.image area.old) }
         requires known { Knows (A.image area.old) self.now }
         requires target { IsTarget (A.image area.old) target.now }
+        requires unpacked { is_compressed (A.image area.old) target.now.form.place.vdr ≡ false }
         requires rule { is_sparse (variable_at (A.image area.old) target.now.form.place.vdr).sparse ≡ true }
         requires count { count ≡ extent (max_rec_at (A.image area.old) target.now.form.place.vdr) }
         requires order { first ≤ last }
@@ -114,6 +118,7 @@ impl Vars {
         requires good { Good (A.image area.old) }
         requires known { Knows (A.image area.old) self.now }
         requires target { IsTarget (A.image area.old) target.now }
+        requires unpacked { is_compressed (A.image area.old) target.now.form.place.vdr ≡ false }
         requires free { (variable_at (A.image area.old) target.now.form.place.vdr).sparse ≡ NoRule }
         requires count { count ≡ extent (max_rec_at (A.image area.old) target.now.form.place.vdr) }
         requires order { first ≤ last }
@@ -153,6 +158,7 @@ impl Vars {
         requires good { Good (A.image area.old) }
         requires known { Knows (A.image area.old) self.now }
         requires target { IsTarget (A.image area.old) target.now }
+        requires unpacked { is_compressed (A.image area.old) target.now.form.place.vdr ≡ false }
         requires rule { is_sparse (variable_at (A.image area.old) target.now.form.place.vdr).sparse ≡ true }
         requires count { count ≡ extent (max_rec_at (A.image area.old) target.now.form.place.vdr) }
         requires order { first ≤ last }
@@ -192,6 +198,7 @@ impl Vars {
         requires good { Good (A.image area.old) }
         requires known { Knows (A.image area.old) self.now }
         requires target { IsTarget (A.image area.old) target.now }
+        requires unpacked { is_compressed (A.image area.old) target.now.form.place.vdr ≡ false }
         requires fits { length (A.image area.old) ≤ (A.frame area.old).limit }
         requires limit { (A.frame area.old).limit ≤ image_limit }
         ensures answers { IfOk result (λ o. (name : List ℕ) → variable_named (content (A.image area.old)) name ≡ Some (target_found (A.image area.old) target.now) → Answers (A.frame area.old).limit (A.image area.old) (DelRecs name first last) o (A.image area.new)) }
@@ -223,6 +230,7 @@ impl Vars {
         last: u32,
     ) -> Result<Outcome, AreaError>
         requires good { Good (A.image area.old) }
+        requires read { IsRead (A.image area.old) }
         requires known { Knows (A.image area.old) self.now }
         requires fits { length (A.image area.old) ≤ (A.frame area.old).limit }
         requires limit { (A.frame area.old).limit ≤ image_limit }

@@ -15,7 +15,7 @@ ghost use Rattle.cdf_edits.specs.Index.Blocks.{cuts_before_put};
 ghost use Rattle.cdf_format.specs.Fields.{LiesIn, gdr_offset, number};
 ghost use Rattle.cdf_format.specs.Index.{Nodes};
 ghost use Rattle.cdf_format.specs.Records.{gdr_r_max_rec, cdr_gdr_offset, cdr_place, past, vdr_vxr_head};
-ghost use Rattle.cdf_format.specs.Shape.{VariableShape, shape, variables, vdrs};
+ghost use Rattle.cdf_format.specs.Shape.{VariableShape, shape, variables, vdrs, is_compressed};
 ghost use Rattle.cdf_format.specs.Tiles.{In};
 ghost use Rattle.cdf_format.specs.VariableFields.{max_rec_at};
 ghost use Rattle.cdf_format.specs.VariableRules.{is_max_rec};
@@ -126,6 +126,7 @@ fn cut_end<A: Area>(
 ) -> Result<bool, AreaError>
     requires good { Good (A.image area.old) }
     requires vdr { In vdr (vdrs (variables (shape (A.image area.old)))) }
+    requires unpacked { is_compressed (A.image area.old) vdr ≡ false }
     requires start { IsKnownStart (A.image area.old) vdr end.node }
     requires tidy { end.tidy ≡ true → IsTidy (index_at (A.image area.old) (number (A.image area.old) vdr vdr_vxr_head)) }
     requires short { length (A.image area.old) ≤ image_limit }
@@ -234,6 +235,7 @@ impl Vars {
         requires good { Good (A.image area.old) }
         requires known { Knows (A.image area.old) self.now }
         requires can { CanPut (A.image area.old) rec target.now bytes.items }
+        requires unpacked { is_compressed (A.image area.old) target.now.form.place.vdr ≡ false }
         requires count { count ≡ extent (max_rec_at (A.image area.old) target.now.form.place.vdr) }
         requires uncut { cuts_before_put (variable_at (A.image area.old) target.now.form.place.vdr) rec ≡ false }
         requires start { IsKnownStart (A.image area.old) target.now.form.place.vdr known }
@@ -264,6 +266,7 @@ impl Vars {
         requires good { Good (A.image area.old) }
         requires known { Knows (A.image area.old) self.now }
         requires can { CanPut (A.image area.old) rec target.now bytes.items }
+        requires unpacked { is_compressed (A.image area.old) target.now.form.place.vdr ≡ false }
         requires count { count ≡ extent (max_rec_at (A.image area.old) target.now.form.place.vdr) }
         requires cuts { cuts_before_put (variable_at (A.image area.old) target.now.form.place.vdr) rec ≡ true }
         requires start { IsKnownStart (A.image area.old) target.now.form.place.vdr end.node }
@@ -297,6 +300,7 @@ impl Vars {
         requires good { Good (A.image area.old) }
         requires known { Knows (A.image area.old) self.now }
         requires can { CanPut (A.image area.old) rec target.now bytes.items }
+        requires unpacked { is_compressed (A.image area.old) target.now.form.place.vdr ≡ false }
         requires starts { KnowsStarts (A.image area.old) starts.old }
         requires fits { length (A.image area.old) ≤ (A.frame area.old).limit }
         requires limit { (A.frame area.old).limit ≤ image_limit }

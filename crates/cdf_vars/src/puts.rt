@@ -1,6 +1,6 @@
 //! The commands `put-rec` and `put-val`: a record of a variable, or one value of it, gets other values.
 
-ghost use Rattle.std.specs.Prelude.{◌≡◌, ◌≤◌, ◌+◌, ◌*◌, ◌++◌, ℕ, List, Ok, length, take, drop, IfOk, OnOk, OnErr, IsTrue};
+ghost use Rattle.std.specs.Prelude.{◌≡◌, ◌≤◌, ◌+◌, ◌*◌, ◌++◌, ℕ, List, Ok, length, take, drop, IfOk, OnOk, OnErr, IsTrue, false};
 ghost use Rattle.cdf_area.specs.Calls.{Edits, Reads};
 ghost use Rattle.cdf_edits.specs.Answers.{Answers};
 ghost use Rattle.cdf_format.specs.WellFormed.{Good};
@@ -12,6 +12,8 @@ ghost use Rattle.cdf_model.specs.declared.command.Command.TheVariants.{PutRec, P
 ghost use Rattle.cdf_puts.specs.Starts.{IsKnownStart, KnowsStarts};
 ghost use Rattle.cdf_vars.specs.Known.{Knows};
 ghost use Rattle.cdf_vars.specs.Puts.{HasTarget, IsPutRequest, IsTarget, SeesTarget};
+ghost use Rattle.cdf_format.specs.Shape.{is_compressed};
+ghost use Rattle.cdf_format.specs.NotRead.{IsRead};
 
 use crate::padding::reason_of;
 use crate::vars::{VarId, Vars};
@@ -21,7 +23,7 @@ use cdf_puts::Starts;
 use cdf_shape::place_of;
 use cdf_values::read_values;
 use cdf_var_records::{
-    Form, is_out_of_range, read_form, read_majority, read_record, value_size, values_of,
+    Form, Unpacked, is_out_of_range, read_form, read_majority, read_record, value_size, values_of,
 };
 use std::alloc::{AllocError, Global};
 
@@ -129,6 +131,7 @@ impl Vars {
         requires good { Good (A.image area.old) }
         requires short { length (A.image area.old) ≤ image_limit }
         requires target { IsTarget (A.image area.old) target }
+        requires unpacked { is_compressed (A.image area.old) target.form.place.vdr ≡ false }
         requires start { IsKnownStart (A.image area.old) target.form.place.vdr known }
         requires long { length value.now ≡ size_of target.form.shape.t * target.form.shape.elems }
         ensures request { IfOk result (λ request. (name : List ℕ) (words : List (List ℕ)) → HasTarget (A.image area.old) name target → values_in target.form.shape.t target.form.shape.elems 1 words ≡ Ok value.now → IsPutRequest (A.image area.old) (PutVal name rec index.now words) name rec request) }
@@ -145,7 +148,8 @@ impl Vars {
                 reason: Reason::RecordOutOfRange,
             });
         }
-        let record = read_record(self.alloc, area, &target.form, known, rec)?;
+        let mut unpacked = Unpacked::new();
+        let record = read_record(self.alloc, area, &mut unpacked, &target.form, known, rec)?;
         let size = value_size(&target.form.shape);
         let bytes = with_value(self.alloc, &record, number, size, value)?;
         Ok(PutRequest::Put { target, bytes })
@@ -163,6 +167,7 @@ impl Vars {
         words: &Words,
     ) -> Result<PutRequest, AreaError>
         requires good { Good (A.image area.old) }
+        requires read { IsRead (A.image area.old) }
         requires known { Knows (A.image area.old) self.now }
         requires starts { KnowsStarts (A.image area.old) starts.old }
         requires short { length (A.image area.old) ≤ image_limit }
@@ -195,6 +200,7 @@ impl Vars {
         words: &Words,
     ) -> Result<Outcome, AreaError>
         requires good { Good (A.image area.old) }
+        requires read { IsRead (A.image area.old) }
         requires known { Knows (A.image area.old) self.now }
         requires starts { KnowsStarts (A.image area.old) starts.old }
         requires fits { length (A.image area.old) ≤ (A.frame area.old).limit }
@@ -223,6 +229,7 @@ impl Vars {
         words: &Words,
     ) -> Result<Outcome, AreaError>
         requires good { Good (A.image area.old) }
+        requires read { IsRead (A.image area.old) }
         requires known { Knows (A.image area.old) self.now }
         requires starts { KnowsStarts (A.image area.old) starts.old }
         requires fits { length (A.image area.old) ≤ (A.frame area.old).limit }

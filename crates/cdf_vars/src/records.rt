@@ -7,9 +7,11 @@ ghost use Rattle.cdf_format.specs.WellFormed.{Good};
 ghost use Rattle.cdf_model.specs.Limits.{image_limit};
 ghost use Rattle.cdf_model.specs.declared.command.Command.TheVariants.{GetRec, GetVal};
 ghost use Rattle.cdf_puts.specs.Starts.{KnowsStarts};
+ghost use Rattle.cdf_vars.specs.Events.{KnowsView};
 ghost use Rattle.cdf_vars.specs.Known.{Knows};
 ghost use Rattle.cdf_vars.specs.Records.{Sees};
 
+use crate::record_view::RecordView;
 use crate::vars::Vars;
 use cdf_area::{Area, AreaError};
 use cdf_model::limits::RECORD_NUMBER_LIMIT;
@@ -59,16 +61,19 @@ impl Vars {
         &self,
         area: &mut A,
         starts: &mut Starts,
+        view: &mut RecordView,
         name: &[u8],
         rec: u32,
     ) -> Result<Outcome, AreaError>
         requires good { Good (A.image area.old) }
         requires known { Knows (A.image area.old) self.now }
         requires starts { KnowsStarts (A.image area.old) starts.old }
+        requires view { KnowsView (A.image area.old) view.old }
         requires fits { length (A.image area.old) ≤ (A.frame area.old).limit }
         requires limit { (A.frame area.old).limit ≤ image_limit }
         ensures answers { IfOk result (λ o. Answers (A.frame area.old).limit (A.image area.old) (GetRec name.now rec) o (A.image area.new)) }
         ensures starts { KnowsStarts (A.image area.old) starts.new }
+        ensures view { KnowsView (A.image area.old) view.new }
         ensures area { Reads A.image A.frame A.faults A.edited area.old area.new result }
     {
         let form = match self.find_form(area, name)? {
@@ -85,7 +90,7 @@ impl Vars {
             });
         }
         let known = starts.find_start(area, form.place.vdr, rec)?;
-        let record = read_record(self.alloc, area, &form, known, rec)?;
+        let record = read_record(self.alloc, area, &mut view.unpacked, &form, known, rec)?;
         Ok(Outcome::Done {
             reply: Reply::Values {
                 t: form.shape.t,
@@ -101,6 +106,7 @@ impl Vars {
         &self,
         area: &mut A,
         starts: &mut Starts,
+        view: &mut RecordView,
         name: &[u8],
         rec: u32,
         index: &Nums,
@@ -108,10 +114,12 @@ impl Vars {
         requires good { Good (A.image area.old) }
         requires known { Knows (A.image area.old) self.now }
         requires starts { KnowsStarts (A.image area.old) starts.old }
+        requires view { KnowsView (A.image area.old) view.old }
         requires fits { length (A.image area.old) ≤ (A.frame area.old).limit }
         requires limit { (A.frame area.old).limit ≤ image_limit }
         ensures answers { IfOk result (λ o. Answers (A.frame area.old).limit (A.image area.old) (GetVal name.now rec index.now) o (A.image area.new)) }
         ensures starts { KnowsStarts (A.image area.old) starts.new }
+        ensures view { KnowsView (A.image area.old) view.new }
         ensures area { Reads A.image A.frame A.faults A.edited area.old area.new result }
     {
         let form = match self.find_form(area, name)? {
@@ -134,7 +142,7 @@ impl Vars {
             });
         }
         let known = starts.find_start(area, form.place.vdr, rec)?;
-        let record = read_record(self.alloc, area, &form, known, rec)?;
+        let record = read_record(self.alloc, area, &mut view.unpacked, &form, known, rec)?;
         let size = value_size(&form.shape);
         let value = piece(self.alloc, &record, number * size, size)?;
         Ok(Outcome::Done {

@@ -1,7 +1,7 @@
 //! A variable that goes: it leaves the chain of its kind, those behind it get numbers less by one, its descriptor leads to no index any
 //! more, and its records are freed.
 
-ghost use Rattle.std.specs.Prelude.{◌≡◌, ◌≤◌, ◌<◌, ◌+◌, ◌^◌, length, max, map, IfOk, OnOk, OnErr};
+ghost use Rattle.std.specs.Prelude.{◌≡◌, ◌≤◌, ◌<◌, ◌+◌, ◌++◌, ◌^◌, length, max, map, IfOk, OnOk, OnErr};
 ghost use Rattle.std.specs.List.{fold, remove};
 ghost use Rattle.cdf_area.specs.Calls.{Edits, Reads};
 ghost use Rattle.cdf_edits.specs.Commands.Allowances.{shapes_of};
@@ -9,7 +9,7 @@ ghost use Rattle.cdf_edits.specs.Edits.RemovesVariable.{RemovesVariable, empty_w
 ghost use Rattle.cdf_edits.specs.Edits.Writes.{with_writes};
 ghost use Rattle.cdf_format.specs.Fields.{LiesIn, gdr_offset};
 ghost use Rattle.cdf_format.specs.Records.{gdr_r_max_rec, vdr_name, cdr_gdr_offset, cdr_place, past};
-ghost use Rattle.cdf_format.specs.Shape.{shape, variables, vdrs};
+ghost use Rattle.cdf_format.specs.Shape.{cpr_of, shape, variables, vdrs};
 ghost use Rattle.cdf_format.specs.Tiles.{In};
 ghost use Rattle.cdf_format.specs.VariableFields.{max_rec_at};
 ghost use Rattle.cdf_format.specs.WellFormed.{Good};
@@ -23,11 +23,15 @@ ghost use Rattle.cdf_vars.specs.Removing.{AreRecordsAt, VdrsLie};
 use crate::chain::chain_of;
 use crate::vars::{VarId, VarTable, Vars};
 use cdf_area::{Area, AreaError};
-use cdf_format::fields::{CDR_GDR_OFFSET, CDR_PLACE, VDR_VXR_HEAD};
+use cdf_format::fields::{
+    CDR_GDR_OFFSET, CDR_PLACE, VDR_COMPRESSION_BIT, VDR_CPR_OR_SPR_OFFSET, VDR_FLAGS, VDR_VXR_HEAD,
+};
+use cdf_format::flags::has_bit;
 use cdf_index::index_records;
 use cdf_model::Kind;
 use cdf_records::{
-    read_unsigned8, set_gdr_r_max_rec, set_vdr_num, set_vdr_vxr_head, set_vdr_vxr_tail,
+    read_unsigned4, read_unsigned8, set_gdr_r_max_rec, set_vdr_num, set_vdr_vxr_head,
+    set_vdr_vxr_tail,
 };
 use cdf_space::{free_records, take_out};
 use cdf_var_records::read_extent;
@@ -119,8 +123,25 @@ fn unlink_index<A: Area>(area: &mut A, vdr: u64) -> Result<(), AreaError>
     set_vdr_vxr_tail(area, vdr, 0)
 }
 
+/// Adds the record of the parameters by which the variable is packed whose descriptor stands at a place, if it is packed.
+fn push_parameters<A: Area>(area: &mut A, vdr: u64, records: &mut Vec<u64>) -> Result<(), AreaError>
+    requires lies { LiesIn (A.image area.old) vdr vdr_name }
+    ensures records { OnOk result (records.new.items ≡ records.old.items ++ cpr_of (A.image area.old) vdr) }
+    ensures area { Reads A.image A.frame A.faults A.edited area.old area.new result }
+{
+    // An image has fewer than 2^64 bytes, so no place in it overflows.
+    let _size = area.size();
+    let flags = read_unsigned4(area, vdr + VDR_FLAGS)?;
+    if !has_bit(flags, VDR_COMPRESSION_BIT) {
+        return Ok(());
+    }
+    let cpr = read_unsigned8(area, vdr + VDR_CPR_OR_SPR_OFFSET)?;
+    records.push(cpr)?;
+    Ok(())
+}
+
 /// The records that go with the variable whose descriptor stands at a place, in the order in which they are freed: the blocks by record
-/// number, the nodes of the index, and the descriptor.
+/// number, the nodes of the index, the parameters of its packing, and the descriptor.
 fn read_records<A: Area>(alloc: Global, area: &mut A, vdr: u64) -> Result<Vec<u64>, AreaError>
     requires good { Good (A.image area.old) }
     requires vdr { In vdr (vdrs (variables (shape (A.image area.old)))) }
@@ -133,6 +154,7 @@ fn read_records<A: Area>(alloc: Global, area: &mut A, vdr: u64) -> Result<Vec<u6
     let _size = area.size();
     let head = read_unsigned8(area, vdr + VDR_VXR_HEAD)?;
     let mut records = index_records(alloc, area, head)?;
+    push_parameters(area, vdr, &mut records)?;
     records.push(vdr)?;
     Ok(records)
 }

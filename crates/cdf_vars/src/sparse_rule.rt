@@ -9,6 +9,7 @@ ghost use Rattle.cdf_model.specs.Turns.{is_refused};
 ghost use Rattle.cdf_model.specs.declared.command.Command.TheVariants.{SetSparse};
 ghost use Rattle.cdf_sparse.specs.SetRule.{rule_code};
 ghost use Rattle.cdf_vars.specs.Known.{Knows};
+ghost use Rattle.cdf_format.specs.NotRead.{IsRead};
 
 use crate::vars::Vars;
 use cdf_area::{Area, AreaError};
@@ -39,6 +40,7 @@ impl Vars {
         rule: Sparse,
     ) -> Result<Outcome, AreaError>
         requires good { Good (A.image area.old) }
+        requires read { IsRead (A.image area.old) }
         requires known { Knows (A.image area.old) self.now }
         requires fits { length (A.image area.old) ≤ (A.frame area.old).limit }
         requires limit { (A.frame area.old).limit ≤ image_limit }

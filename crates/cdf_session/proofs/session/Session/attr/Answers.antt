@@ -9,7 +9,7 @@ pub invariant_of-self : goal.invariant_of-self
 invariant_of-self g c = (
   ends_open (g.A.Area.image c.self.inside.area) (g.A.Area.image c.mark.new.self) (g.A.Area.image c.create-done.new.area) (g.A.Area.image c.settle.new.area)
       (g.A.Area.frame c.self.inside.area) (g.A.Area.frame c.mark.new.self) (g.A.Area.frame c.create-done.new.area) (g.A.Area.frame c.settle.new.area)
-      c.self.inside.attrs c.create-done.new.self c.self.inside.vars (Attr c.args.name.now c.args.scope) refl c.create-done.result
+      c.self.inside.attrs c.create-done.new.self c.self.inside.vars (Attr c.args.name.now c.args.scope) refl refl c.create-done.result
       c.self.invariant.0 c.mark.ensures.image c.mark.ensures.frame c.create-done.ensures.area.frame c.settle.ensures.frame
       c.create-done.ensures.answers c.create-done.ensures.known c.create-done.ensures.stays c.settle.ensures.kept c.settle.ensures.undone,
   record {

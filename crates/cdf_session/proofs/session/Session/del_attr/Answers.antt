@@ -9,7 +9,7 @@ pub invariant_of-self : goal.invariant_of-self
 invariant_of-self g c = (
   ends_open (g.A.Area.image c.self.inside.area) (g.A.Area.image c.mark.new.self) (g.A.Area.image c.remove-done.new.area) (g.A.Area.image c.settle.new.area)
       (g.A.Area.frame c.self.inside.area) (g.A.Area.frame c.mark.new.self) (g.A.Area.frame c.remove-done.new.area) (g.A.Area.frame c.settle.new.area)
-      c.self.inside.attrs c.remove-done.new.self c.self.inside.vars (DelAttr c.args.name.now) refl c.remove-done.result
+      c.self.inside.attrs c.remove-done.new.self c.self.inside.vars (DelAttr c.args.name.now) refl refl c.remove-done.result
       c.self.invariant.0 c.mark.ensures.image c.mark.ensures.frame c.remove-done.ensures.area.frame c.settle.ensures.frame
       c.remove-done.ensures.answers c.remove-done.ensures.known c.remove-done.ensures.stays c.settle.ensures.kept c.settle.ensures.undone,
   record {

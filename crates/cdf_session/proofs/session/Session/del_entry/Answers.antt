@@ -9,7 +9,7 @@ pub invariant_of-self : goal.invariant_of-self
 invariant_of-self g c = (
   ends_open (g.A.Area.image c.self.inside.area) (g.A.Area.image c.mark.new.self) (g.A.Area.image c.del_entry-done.new.area) (g.A.Area.image c.settle.new.area)
       (g.A.Area.frame c.self.inside.area) (g.A.Area.frame c.mark.new.self) (g.A.Area.frame c.del_entry-done.new.area) (g.A.Area.frame c.settle.new.area)
-      c.self.inside.attrs c.del_entry-done.new.self c.self.inside.vars (DelEntry c.args.attr.now c.args.kind c.args.num) refl c.del_entry-done.result
+      c.self.inside.attrs c.del_entry-done.new.self c.self.inside.vars (DelEntry c.args.attr.now c.args.kind c.args.num) refl refl c.del_entry-done.result
       c.self.invariant.0 c.mark.ensures.image c.mark.ensures.frame c.del_entry-done.ensures.area.frame c.settle.ensures.frame
       c.del_entry-done.ensures.answers c.del_entry-done.ensures.known c.del_entry-done.ensures.stays c.settle.ensures.kept c.settle.ensures.undone,
   record {

@@ -1,13 +1,17 @@
-use Rattle.cdf_session.proofs.Common.{DelRecs, refl}
+use Rattle.cdf_session.proofs.Common.{DelRecs, refl, subst, sym}
 use Rattle.cdf_session.proofs.OpenLemmas.{good_stays, ends_on_own}
 use Rattle.cdf_session.proofs.session.Session.del_recs.Goals as goal
+use Rattle.cdf_format.specs.NotRead.{IsRead}
 
 pub del_recs-done-requires-clause-good : goal.del_recs-done-requires-clause-good
 del_recs-done-requires-clause-good g c = good_stays _ _ c.self.invariant.0.good c.mark.ensures.image
 
+pub del_recs-done-requires-clause-read : goal.del_recs-done-requires-clause-read
+del_recs-done-requires-clause-read g c = subst IsRead (sym c.mark.ensures.image) c.self.invariant.0.read
+
 pub invariant_of-self : goal.invariant_of-self
 invariant_of-self g c = (
-  ends_on_own _ _ _ _ _ _ _ _ _ _ (DelRecs c.args.var.now c.args.first c.args.last) (record { not_on_attributes = refl; on_no_entry = λ d n kind. refl }) _
+  ends_on_own _ _ _ _ _ _ _ _ _ _ (DelRecs c.args.var.now c.args.first c.args.last) (record { not_on_attributes = refl; on_no_entry = λ d n kind. refl }) refl _
       c.self.invariant.0 c.mark.ensures.image c.mark.ensures.frame c.del_recs-done.ensures.area.frame c.settle.ensures.frame c.del_recs-done.ensures.answers c.del_recs-done.ensures.known c.settle.ensures.kept c.settle.ensures.undone,
   c.forget.ensures _,
 )

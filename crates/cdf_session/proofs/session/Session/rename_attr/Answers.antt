@@ -9,7 +9,7 @@ pub invariant_of-self : goal.invariant_of-self
 invariant_of-self g c = (
   ends_open (g.A.Area.image c.self.inside.area) (g.A.Area.image c.mark.new.self) (g.A.Area.image c.rename-done.new.area) (g.A.Area.image c.settle.new.area)
       (g.A.Area.frame c.self.inside.area) (g.A.Area.frame c.mark.new.self) (g.A.Area.frame c.rename-done.new.area) (g.A.Area.frame c.settle.new.area)
-      c.self.inside.attrs c.rename-done.new.self c.self.inside.vars (RenameAttr c.args.from.now c.args.to.now) refl c.rename-done.result
+      c.self.inside.attrs c.rename-done.new.self c.self.inside.vars (RenameAttr c.args.from.now c.args.to.now) refl refl c.rename-done.result
       c.self.invariant.0 c.mark.ensures.image c.mark.ensures.frame c.rename-done.ensures.area.frame c.settle.ensures.frame
       c.rename-done.ensures.answers c.rename-done.ensures.known c.rename-done.ensures.stays c.settle.ensures.kept c.settle.ensures.undone,
   record {

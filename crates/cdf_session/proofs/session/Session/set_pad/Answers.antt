@@ -7,7 +7,7 @@ set_pad-done-requires-clause-good g c = good_stays _ _ c.self.invariant.0.good c
 
 pub invariant_of-self : goal.invariant_of-self
 invariant_of-self g c = (
-  ends_on_variables _ _ _ _ _ _ _ _ _ _ _ (SetPad c.args.var.now c.args.words.now) (record { not_on_attributes = refl; on_no_entry = λ d n kind. refl }) _
+  ends_on_variables _ _ _ _ _ _ _ _ _ _ _ (SetPad c.args.var.now c.args.words.now) (record { not_on_attributes = refl; on_no_entry = λ d n kind. refl }) refl _
       c.self.invariant.0 c.mark.ensures.image c.mark.ensures.frame c.set_pad-done.ensures.area.frame c.settle.ensures.frame c.set_pad-done.ensures.answers c.set_pad-done.ensures.known c.set_pad-done.ensures.stays c.settle.ensures.kept c.settle.ensures.undone,
   c.forget.ensures _,
 )

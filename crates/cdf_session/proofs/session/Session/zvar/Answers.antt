@@ -7,7 +7,7 @@ create_z-done-requires-clause-good g c = good_stays _ _ c.self.invariant.0.good 
 
 pub invariant_of-self : goal.invariant_of-self
 invariant_of-self g c = (
-  ends_on_variables _ _ _ _ _ _ _ _ _ _ _ (ZVar c.args.name.now c.args.t c.args.elems c.args.vary c.args.dims.now c.args.varys.now) (record { not_on_attributes = refl; on_no_entry = λ d n kind. refl }) _
+  ends_on_variables _ _ _ _ _ _ _ _ _ _ _ (ZVar c.args.name.now c.args.t c.args.elems c.args.vary c.args.dims.now c.args.varys.now) (record { not_on_attributes = refl; on_no_entry = λ d n kind. refl }) refl _
       c.self.invariant.0 c.mark.ensures.image c.mark.ensures.frame c.create_z-done.ensures.area.frame c.settle.ensures.frame c.create_z-done.ensures.answers c.create_z-done.ensures.known c.create_z-done.ensures.stays c.settle.ensures.kept c.settle.ensures.undone,
   c.forget.ensures _,
 )

@@ -12,7 +12,7 @@ pub returns-then-eq-clause-reader : goal.returns-then-eq-clause-reader
 returns-then-eq-clause-reader c b known =
     let last = c.in_ok-last.last in
     let kept : c.args.self.now.last ≡ Some last = sym c.take.ensures.value ∙ c.in_ok-last.was in
-    let reads : ReadsFrom b last.id last.reader = subst (λ (o : Option LastRead). IfSome o (λ l. ReadsFrom b l.id l.reader)) kept known in
+    let reads : ReadsFrom b last.id last.reader = subst (λ (o : Option LastRead). IfSome o (λ l. ReadsFrom b l.id l.reader)) kept known.last in
     let kind = same_true the_type (search rules) _ _ (both _ _ (sym c.if-eq.ensures)).0 in
     let num = eqb-true _ _ (both _ _ (sym c.if-eq.ensures)).1 in
     let same : last.id ≡ c.args.id = λ i. record { kind = kind i; num = num i } in

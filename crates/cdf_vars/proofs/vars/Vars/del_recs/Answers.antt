@@ -1,6 +1,8 @@
 use Rattle.cdf_vars.proofs.Common.{IfOk-weaker, NoSuchVar, refl, refused}
 use Rattle.cdf_model.specs.declared.command.Command.TheVariants.{DelRecs}
 use Rattle.cdf_vars.proofs.vars.Vars.del_recs.Goals as goal
+use Rattle.cdf_vars.proofs.Unpacked.{unpacked_there}
+use Rattle.cdf_vars.proofs.PutRead.{form_vdr}
 
 pub returns-in_default-clause-answers : goal.returns-in_default-clause-answers
 returns-in_default-clause-answers g c =
@@ -8,6 +10,11 @@ returns-in_default-clause-answers g c =
 
 pub delete_target-requires-clause-good : goal.delete_target-requires-clause-good
 delete_target-requires-clause-good g c = rw (c.find_target.ensures.area.image) c.requires.good
+
+pub delete_target-requires-clause-unpacked : goal.delete_target-requires-clause-unpacked
+delete_target-requires-clause-unpacked g c =
+    let target = rw c.in-Some.is at c.in_ok-target.ensures.target in
+    rw (c.find_target.ensures.area.image) (unpacked_there _ _ c.requires.read (form_vdr c.requires.good target.is.is_form))
 
 pub returns-clause-answers : goal.returns-clause-answers
 returns-clause-answers g c =

@@ -21,11 +21,17 @@ returns-then-last-first-clause-answers g c name named =
 pub delete_under_rule-requires-clause-good : goal.delete_under_rule-requires-clause-good
 delete_under_rule-requires-clause-good g c = rw (c.read_sparse.ensures.area.image, c.read_extent.ensures.area.image) c.requires.good
 
+pub delete_under_rule-requires-clause-unpacked : goal.delete_under_rule-requires-clause-unpacked
+delete_under_rule-requires-clause-unpacked g c = rw (c.read_sparse.ensures.area.image, c.read_extent.ensures.area.image) c.requires.unpacked
+
 pub delete_under_rule-requires-clause-rule : goal.delete_under_rule-requires-clause-rule
 delete_under_rule-requires-clause-rule g c = rw (c.read_sparse.ensures.area.image, ← c.in_ok-rule.ensures.sparse) (sym c.has_gaps.ensures ∙ c.if-has_gaps.true)
 
 pub delete_without_rule-requires-clause-good : goal.delete_without_rule-requires-clause-good
 delete_without_rule-requires-clause-good g c = rw (c.read_sparse.ensures.area.image, c.read_extent.ensures.area.image) c.requires.good
+
+pub delete_without_rule-requires-clause-unpacked : goal.delete_without_rule-requires-clause-unpacked
+delete_without_rule-requires-clause-unpacked g c = rw (c.read_sparse.ensures.area.image, c.read_extent.ensures.area.image) c.requires.unpacked
 
 pub delete_without_rule-requires-clause-free : goal.delete_without_rule-requires-clause-free
 delete_without_rule-requires-clause-free g c = rw (c.read_sparse.ensures.area.image, ← c.in_ok-rule.ensures.sparse) (free_of c.in_ok-rule.rule (sym c.has_gaps.ensures ∙ c.if-has_gaps.false))

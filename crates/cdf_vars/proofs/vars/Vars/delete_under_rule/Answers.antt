@@ -18,6 +18,9 @@ read_opening_room-requires-clause-vdr g c = rw (c.read_extent_after.ensures.area
 pub read_opening_room-requires-clause-good : goal.read_opening_room-requires-clause-good
 read_opening_room-requires-clause-good g c = rw (c.read_extent_after.ensures.area.image) c.requires.good
 
+pub read_opening_room-requires-clause-unpacked : goal.read_opening_room-requires-clause-unpacked
+read_opening_room-requires-clause-unpacked g c = rw (c.read_extent_after.ensures.area.image) c.requires.unpacked
+
 -- how many records are left, what is needed, and the room that there is
 end_own : (g : Over) (c : In_ok-end g) → c.in_ok-end.end ≡ extent_after (variable_of (g.A.Area.image c.args.area.now) c.requires.target.own) c.args.first c.args.last
 end_own g c = let is = c.requires.target in c.in_ok-end.ensures.left c.args.target.now.id.kind is.before is.own is.after is.among is.vdr_is (ap (λ (x : Variable). is_sparse x.sparse) (sym is.variable_is) ∙ c.requires.rule)
@@ -53,6 +56,9 @@ returns-then-limit-size-clause-answers g c name named =
 
 pub leave_gap-requires-clause-good : goal.leave_gap-requires-clause-good
 leave_gap-requires-clause-good g c = rw (c.read_opening_room.ensures.area.image, c.read_extent_after.ensures.area.image) c.requires.good
+
+pub leave_gap-requires-clause-unpacked : goal.leave_gap-requires-clause-unpacked
+leave_gap-requires-clause-unpacked g c = rw (c.read_opening_room.ensures.area.image, c.read_extent_after.ensures.area.image) c.requires.unpacked
 
 pub leave_gap-requires-clause-end : goal.leave_gap-requires-clause-end
 leave_gap-requires-clause-end g c = rw (c.read_opening_room.ensures.area.image, c.read_extent_after.ensures.area.image) (end_is g (goal.at.leave_gap-requires-clause-end g c).In_ok-end)

@@ -34,3 +34,6 @@ returns-clause-answers g c name named =
 
 pub close_up-requires-clause-good : goal.close_up-requires-clause-good
 close_up-requires-clause-good g c = rw (c.read_closing_room.ensures.area.image) c.requires.good
+
+pub close_up-requires-clause-unpacked : goal.close_up-requires-clause-unpacked
+close_up-requires-clause-unpacked g c = rw (c.read_closing_room.ensures.area.image) c.requires.unpacked

@@ -16,7 +16,7 @@ returns-then-rec-gt-RECORD_NUMBER_LIMIT-clause-answers g c =
 pub read_record-requires : goal.read_record-requires
 read_record-requires g c =
     let has = rw c.in-Found.is at c.in_ok-form.ensures.form in
-    rw (c.find_start.ensures.area.image, c.find_form.ensures.area.image) (record { good = c.requires.good; short = (let fits = c.requires.fits in let limit = c.requires.limit in omega arith); form = has.is_form; known = rw (c.find_form.ensures.area.image) at c.in_ok-known.ensures.start })
+    rw (c.find_start.ensures.area.image, c.find_form.ensures.area.image) (record { good = c.requires.good; short = (let fits = c.requires.fits in let limit = c.requires.limit in omega arith); form = has.is_form; kept = c.requires.view.unpacked; known = rw (c.find_form.ensures.area.image) at c.in_ok-known.ensures.start })
 
 pub returns-clause-answers : goal.returns-clause-answers
 returns-clause-answers g c =

@@ -55,7 +55,7 @@ returns-then-rec-gt-RECORD_NUMBER_LIMIT-clause-answers g c =
 pub read_record-requires : goal.read_record-requires
 read_record-requires g c =
     let short : length (g.A.Area.image c.args.area.now) ≤ image_limit = omega (arith, c.requires.fits, c.requires.limit) in
-    rw (c.find_start.ensures.area.image, c.read_majority.ensures.area.image, c.find_form.ensures.area.image) (record { good = c.requires.good; short = short; form = (has g (goal.at.read_record-requires g c).In-Found).is_form; known = rw (c.read_majority.ensures.area.image, c.find_form.ensures.area.image) at c.in_ok-known.ensures.start })
+    rw (c.find_start.ensures.area.image, c.read_majority.ensures.area.image, c.find_form.ensures.area.image) (record { good = c.requires.good; short = short; form = (has g (goal.at.read_record-requires g c).In-Found).is_form; kept = c.requires.view.unpacked; known = rw (c.read_majority.ensures.area.image, c.find_form.ensures.area.image) at c.in_ok-known.ensures.start })
 
 pub overflow_mul-number : goal.overflow_mul-number
 overflow_mul-number g c = omega (arith, value_inside g (goal.at.overflow_mul-number g c).After-value_size-size, c.in_ok-record.record.ok)

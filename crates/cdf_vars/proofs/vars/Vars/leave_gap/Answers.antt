@@ -2,7 +2,7 @@ use Rattle.cdf_vars.proofs.Common.{R, ap, cast_signed, cast_unsigned, is_max_rec
 use Rattle.cdf_cuts.specs.Past.{CutPast, cut_off}
 use Rattle.cdf_model.specs.RecordSteps.{last_number}
 use Rattle.cdf_sparse.specs.Opening.{CutOpen}
-use Rattle.cdf_vars.proofs.GapLeft.{below, follows_other, follows_same, knows_other, knows_same, left_good, left_places, left_short, left_vdr, mid_good, mid_short, mid_vdr, opening_fits}
+use Rattle.cdf_vars.proofs.GapLeft.{below, follows_other, follows_same, knows_other, knows_same, left_good, left_places, left_short, left_vdr, mid_good, mid_short, mid_vdr, opening_fits, mid_unpacked}
 use Rattle.cdf_vars.proofs.PutRead.{is_vdr}
 use Rattle.cdf_vars.proofs.RecordsDeleted.{last_passed, last_ruled}
 use Rattle.cdf_var_records.proofs.RecordReading.{record_size_is}
@@ -33,6 +33,9 @@ pub cut_past-requires-clause-vdr : goal.cut_past-requires-clause-vdr
 cut_past-requires-clause-vdr g c =
     let q = c.requires in
     vdr_in (mid_vdr q.good q.target q.rule q.count q.order q.has q.few q.end q.fewer (opened g (goal.at.cut_past-requires-clause-vdr g c).In_ok-open_records))
+
+pub cut_past-requires-clause-unpacked : goal.cut_past-requires-clause-unpacked
+cut_past-requires-clause-unpacked g c = let q = c.requires in mid_unpacked q.good q.target q.rule q.count q.order q.has q.few q.end q.fewer (opened g (goal.at.cut_past-requires-clause-unpacked g c).In_ok-open_records)
 
 pub cut_past-requires-clause-short : goal.cut_past-requires-clause-short
 cut_past-requires-clause-short g c =

@@ -15,6 +15,9 @@ read_extent-requires g c = let l = head_lies c.requires.good c.requires.can.is.i
 pub has_put_room-requires-clause-good : goal.has_put_room-requires-clause-good
 has_put_room-requires-clause-good g c = rw (c.read_first_written.ensures.area.image, c.read_extent.ensures.area.image, c.find_start.ensures.area.image) c.requires.good
 
+pub has_put_room-requires-clause-unpacked : goal.has_put_room-requires-clause-unpacked
+has_put_room-requires-clause-unpacked g c = rw (c.read_first_written.ensures.area.image, c.read_extent.ensures.area.image, c.find_start.ensures.area.image) c.requires.unpacked
+
 pub has_put_room-requires-clause-within : goal.has_put_room-requires-clause-within
 has_put_room-requires-clause-within g c = within (variable_at (g.A.Area.image c.args.area.now) c.args.target.now.form.place.vdr) c.args.rec c.requires.can.can
 
@@ -48,6 +51,9 @@ returns-then-not-fits-clause-answers g c d name so =
 
 pub write_record-requires-clause-good : goal.write_record-requires-clause-good
 write_record-requires-clause-good g c = rw (c.has_put_room.ensures.area.image, c.read_first_written.ensures.area.image, c.read_extent.ensures.area.image, c.find_start.ensures.area.image) c.requires.good
+
+pub write_record-requires-clause-unpacked : goal.write_record-requires-clause-unpacked
+write_record-requires-clause-unpacked g c = rw (c.has_put_room.ensures.area.image, c.read_first_written.ensures.area.image, c.read_extent.ensures.area.image, c.find_start.ensures.area.image) c.requires.unpacked
 
 pub write_record-requires-clause-room : goal.write_record-requires-clause-room
 write_record-requires-clause-room g c =
@@ -116,6 +122,9 @@ write_past-requires-clause-cuts g c =
 
 pub write_past-requires-clause-good : goal.write_past-requires-clause-good
 write_past-requires-clause-good g c = rw (c.has_put_room.ensures.area.image, c.read_first_written.ensures.area.image, c.read_extent.ensures.area.image, c.find_start.ensures.area.image) c.requires.good
+
+pub write_past-requires-clause-unpacked : goal.write_past-requires-clause-unpacked
+write_past-requires-clause-unpacked g c = rw (c.has_put_room.ensures.area.image, c.read_first_written.ensures.area.image, c.read_extent.ensures.area.image, c.find_start.ensures.area.image) c.requires.unpacked
 
 pub write_past-requires-clause-room : goal.write_past-requires-clause-room
 write_past-requires-clause-room g c =

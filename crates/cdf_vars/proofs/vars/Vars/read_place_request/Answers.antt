@@ -1,4 +1,5 @@
 use Rattle.cdf_vars.proofs.Common.{IndexOutOfRange, List, PutVal, RecordOutOfRange, ap, content, drop, length, place, read, refl, refused, sym, take, values_fit, variable_at, ℕ, ◌*◌, ◌++◌, ◌+◌, ◌∙◌, ◌≡◌, ◌≤◌}
+use Rattle.cdf_area.proofs.Calls.{read_more, read_once, read_without_memory}
 use Rattle.cdf_vars.proofs.PutRequests.{val_may}
 use Rattle.cdf_vars.proofs.RecordPlaces.{inside, named_formed}
 use Rattle.cdf_vars.proofs.vars.Vars.read_place_request.Given.{Over}
@@ -36,7 +37,7 @@ returns-then-is_out_of_range-clause-request g c name words h says limit =
     refused limit _ (PutVal name c.args.rec c.args.index.now words) RecordOutOfRange (rw (named_formed c.requires.target.is_form name h.named, says, there, over) refl)
 
 pub read_record-requires : goal.read_record-requires
-read_record-requires g c = rw (c.read_majority.ensures.area.image) (record { good = c.requires.good; short = c.requires.short; form = c.requires.target.is_form; known = c.requires.start })
+read_record-requires g c = rw (c.read_majority.ensures.area.image) (record { good = c.requires.good; short = c.requires.short; form = c.requires.target.is_form; kept = c.new-unpacked.ensures (g.A.Area.image c.args.area.now); known = c.requires.start })
 
 pub with_value-requires : goal.with_value-requires
 with_value-requires g c = record { inside = rw c.deref.ensures.value (value_inside g (goal.at.with_value-requires g c).After-value_size-size) }
@@ -50,3 +51,6 @@ returns-clause-request g c name words h says =
     let can = sym (c.is_out_of_range.ensures (g.A.Area.image c.args.area.now) c.requires.target.is_form) ∙ c.if-is_out_of_range.false in
     val_may h c.args.rec c.requires.good can words c.args.index.now there c.value_size-size.ensures c.in_ok-record.record.items (record_is g read) (value_inside g read)
     c.args.value.now c.in_ok-bytes.bytes.items says (c.requires.long ∙ sym c.value_size-size.ensures) made
+
+pub returns-in_err-bytes-clause-area : goal.returns-in_err-bytes-clause-area
+returns-in_err-bytes-clause-area g c = read_without_memory (read_more (read_once c.in_ok-majority.ensures.area) c.in_ok-record.ensures.area) c.from_residual-in_err-bytes.ensures.1

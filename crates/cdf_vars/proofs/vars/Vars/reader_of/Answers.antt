@@ -1,4 +1,5 @@
 use Rattle.cdf_vars.proofs.Common.{Some, ap, read_done, read_once, sym, variable_at, ℕ, ◌∙◌}
+use Rattle.cdf_vars.proofs.NextEvents.{without_reader}
 use Rattle.cdf_vars.proofs.VariableNumbered.{none_numbered, numbered_vdr, variable_numbered}
 use Rattle.cdf_vars.proofs.vars.Vars.reader_of.Goals as goal
 
@@ -19,3 +20,15 @@ returns-clause-reader g c = record {
 
 pub returns-clause-area : goal.returns-clause-area
 returns-clause-area g c = read_done (read_once c.in_ok-reader.ensures.area)
+
+pub returns-in-Some-clause-view : goal.returns-in-Some-clause-view
+returns-in-Some-clause-view g c = without_reader (g.A.Area.image c.args.area.now) c.args.view.now c.take.new.self c.requires.view c.take.ensures.left c.take.ensures.unpacked
+
+pub returns-in_default-find_place-clause-view : goal.returns-in_default-find_place-clause-view
+returns-in_default-find_place-clause-view g c = without_reader (g.A.Area.image c.args.area.now) c.args.view.now c.take.new.self c.requires.view c.take.ensures.left c.take.ensures.unpacked
+
+pub returns-clause-view : goal.returns-clause-view
+returns-clause-view g c = without_reader (g.A.Area.image c.args.area.now) c.args.view.now c.take.new.self c.requires.view c.take.ensures.left c.take.ensures.unpacked
+
+pub returns-in_err-reader-clause-view : goal.returns-in_err-reader-clause-view
+returns-in_err-reader-clause-view g c = without_reader (g.A.Area.image c.args.area.now) c.args.view.now c.take.new.self c.requires.view c.take.ensures.left c.take.ensures.unpacked

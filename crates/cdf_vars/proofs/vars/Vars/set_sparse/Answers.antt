@@ -7,6 +7,7 @@ use Rattle.cdf_vars.proofs.VariableFound.{Parts, is_vdr, missing, own_is, parts_
 use Rattle.cdf_vars.proofs.vars.Vars.set_sparse.Given.{Over}
 use Rattle.cdf_vars.proofs.vars.Vars.set_sparse.Goals.{After-place_of-vdr, In_ok-cut_past}
 use Rattle.cdf_vars.proofs.vars.Vars.set_sparse.Goals as goal
+use Rattle.cdf_vars.proofs.Unpacked.{unpacked_there}
 
 -- the variable of the name, and where its descriptor stands
 abbrev parts : (g : Over) (c : After-place_of-vdr g) → Parts (g.A.Area.image c.args.area.now) c.args.self.now c.args.name.now c.in-Some.found
@@ -37,6 +38,9 @@ cut_past-requires-clause-good g c = rw (c.read_extent.ensures.area.image) c.requ
 
 pub cut_past-requires-clause-vdr : goal.cut_past-requires-clause-vdr
 cut_past-requires-clause-vdr g c = rw (c.read_extent.ensures.area.image) (vdr_in (there g (goal.at.cut_past-requires-clause-vdr g c).After-place_of-vdr))
+
+pub cut_past-requires-clause-unpacked : goal.cut_past-requires-clause-unpacked
+cut_past-requires-clause-unpacked g c = rw (c.read_extent.ensures.area.image) (unpacked_there _ _ c.requires.read (vdr_in (there g (goal.at.cut_past-requires-clause-unpacked g c).After-place_of-vdr)))
 
 -- its blocks went
 abbrev IsCut : (g : Over) → In_ok-cut_past g → Type 0

@@ -5,14 +5,14 @@ use Rattle.cdf_puts.specs.Starts.{IsKnownStart}
 use Rattle.cdf_puts.specs.TidyIndex.{IsTidy}
 use Rattle.cdf_trim.specs.Trimming.{KeepsBlocks}
 use Rattle.cdf_vars.proofs.PutPast.{follows, known_now, now_extent, now_good, now_places, now_short, now_vdr, some_putting, start_yet, starts_now, starts_yet, tidy_now, tops}
-use Rattle.cdf_vars.proofs.PutRead.{IsRead, cuts_there, expects_there, form_vdr, is_read, within}
+use Rattle.cdf_vars.proofs.PutRead.{WasRead, cuts_there, expects_there, form_vdr, is_read, within}
 use Rattle.cdf_vars.proofs.vars.Vars.write_past.Given.{Over}
 use Rattle.cdf_vars.proofs.vars.Vars.write_past.Goals.{In_ok-stays, In_ok-put, In_ok-put_records}
 use Rattle.cdf_vars.proofs.vars.Vars.write_past.Goals as goal
 
 -- the image that was read
-here : (g : Over) (c : In_ok-put g) → IsRead (g.A.Area.image c.read_new_record.new.area) c.args.target.now c.in_ok-put.put.rec c.args.bytes.items c.in_ok-put.put (g.A.Area.frame c.read_new_record.new.area).limit
-here g c = is_read c.read_new_record.ensures.area.image (ap (λ (f : Frame _). f.limit) c.read_new_record.ensures.area.frame) c.requires.good c.requires.can c.requires.room c.requires.limit c.in_ok-put.ensures.put
+here : (g : Over) (c : In_ok-put g) → WasRead (g.A.Area.image c.read_new_record.new.area) c.args.target.now c.in_ok-put.put.rec c.args.bytes.items c.in_ok-put.put (g.A.Area.frame c.read_new_record.new.area).limit
+here g c = is_read c.read_new_record.ensures.area.image (ap (λ (f : Frame _). f.limit) c.read_new_record.ensures.area.frame) c.requires.good c.requires.unpacked c.requires.can c.requires.room c.requires.limit c.in_ok-put.ensures.put
 
 -- something is cut
 cuts : (g : Over) (c : In_ok-put g) → cuts_before_put (variable_at (g.A.Area.image c.read_new_record.new.area) c.args.target.now.form.place.vdr) c.in_ok-put.put.rec ≡ true
@@ -28,6 +28,9 @@ pub cut_end-requires-clause-vdr : goal.cut_end-requires-clause-vdr
 cut_end-requires-clause-vdr g c =
     let k = here g (goal.at.cut_end-requires-clause-vdr g c).In_ok-put in
     rw (c.in_ok-put.ensures.put.vdr_is) (form_vdr k.good k.can.is.is_form)
+
+pub cut_end-requires-clause-unpacked : goal.cut_end-requires-clause-unpacked
+cut_end-requires-clause-unpacked g c = let k = here g (goal.at.cut_end-requires-clause-unpacked g c).In_ok-put in rw (c.in_ok-put.ensures.put.vdr_is) k.loose
 
 pub cut_end-requires-clause-short : goal.cut_end-requires-clause-short
 cut_end-requires-clause-short g c = (here g (goal.at.cut_end-requires-clause-short g c).In_ok-put).short

@@ -1,14 +1,14 @@
 use Rattle.cdf_edits.specs.Index.Blocks.{cuts_before_put}
 use Rattle.cdf_vars.proofs.Common.{Frame, List, R, ap, extent, max_rec_at, min, on_ok_weaker, shape, shapes_of, sym, variable_at, vdrs, ℕ, ◌∙◌, ◌≡◌, false}
-use Rattle.cdf_vars.proofs.PutRead.{IsRead, cuts_own, cuts_there, expects_there, from_is, is_read, within}
+use Rattle.cdf_vars.proofs.PutRead.{WasRead, cuts_own, cuts_there, expects_there, from_is, is_read, within}
 use Rattle.cdf_vars.proofs.PutWhole.{follows, known_now, now_extent, now_good, now_places, now_short, now_vdr, some_putting, starts_now}
 use Rattle.cdf_vars.proofs.vars.Vars.write_record.Given.{Over}
 use Rattle.cdf_vars.proofs.vars.Vars.write_record.Goals.{In_ok-put}
 use Rattle.cdf_vars.proofs.vars.Vars.write_record.Goals as goal
 
 -- the image that was read
-here : (g : Over) (c : In_ok-put g) → IsRead (g.A.Area.image c.read_new_record.new.area) c.args.target.now c.in_ok-put.put.rec c.args.bytes.items c.in_ok-put.put (g.A.Area.frame c.read_new_record.new.area).limit
-here g c = is_read c.read_new_record.ensures.area.image (ap (λ (f : Frame _). f.limit) c.read_new_record.ensures.area.frame) c.requires.good c.requires.can c.requires.room c.requires.limit c.in_ok-put.ensures.put
+here : (g : Over) (c : In_ok-put g) → WasRead (g.A.Area.image c.read_new_record.new.area) c.args.target.now c.in_ok-put.put.rec c.args.bytes.items c.in_ok-put.put (g.A.Area.frame c.read_new_record.new.area).limit
+here g c = is_read c.read_new_record.ensures.area.image (ap (λ (f : Frame _). f.limit) c.read_new_record.ensures.area.frame) c.requires.good c.requires.unpacked c.requires.can c.requires.room c.requires.limit c.in_ok-put.ensures.put
 
 -- nothing is cut
 whole : (g : Over) (c : In_ok-put g) → cuts_before_put (variable_at (g.A.Area.image c.read_new_record.new.area) c.args.target.now.form.place.vdr) c.in_ok-put.put.rec ≡ false
