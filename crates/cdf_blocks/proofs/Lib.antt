@@ -1,0 +1,17 @@
+pub mod Common
+pub mod PlacedLeaf
+pub mod PlacedNode
+pub mod BlockBytes
+pub mod BlockOf
+pub mod KeptRules
+pub mod InPlace
+pub mod GoesKeep
+pub mod BlockGoes
+pub mod InPlaceGoes
+pub mod NewBlock
+pub mod MovedLinked
+pub mod MovedFreed
+pub mod MovedGoes
+pub mod PlainWritten
+pub mod PlacingCalls
+pub mod StoringCalls
