@@ -1,6 +1,6 @@
 -- Records that go from the index and the blocks of a variable, of which no block is packed, where later ones close up: what the image has by then (own).
 use Rattle.std.specs.Prelude.{◌≡◌, ◌<◌, ◌≤◌, ℕ, ◌+◌, List, [], ◌∷◌, length, bytes_eq, if◌then◌else◌, false}
-use Rattle.cdf_edits.proofs.Edits.LeafPieces.{IsOneOf}
+use Rattle.cdf_edits.specs.Edits.Standing.{IsOneOf}
 use Rattle.cdf_edits.specs.Commands.Allowances.{FreedStay, no_fields}
 use Rattle.cdf_edits.specs.Commands.GreatestRecord.{r_max_rec}
 use Rattle.cdf_edits.specs.Index.Written.{NodesFollow, last_node, top_chain}

@@ -1,7 +1,7 @@
 -- Bytes that are moved to the front of an image, and the records of a block that close up so (own).
 use Rattle.std.specs.Prelude.{◌≡◌, ◌⊎◌, ◌<◌, ◌≤◌, ℕ, ◌+◌, ◌-◌, ◌*◌, max, List, length, Some, None}
 use Rattle.std.specs.declared.option.Option.{Option}
-use Rattle.cdf_edits.proofs.Edits.LeafPieces.{IsOneOf, record_place}
+use Rattle.cdf_edits.specs.Edits.Standing.{IsOneOf, record_place}
 use Rattle.cdf_edits.specs.Index.Blocks.{fallen}
 use Rattle.cdf_format.specs.Bytes.{byte}
 use Rattle.cdf_format.specs.Fields.{size_at}

@@ -1,7 +1,6 @@
 -- What writing the nodes that stay leaves of an image, one by one (own).
 use Rattle.std.specs.Prelude.{◌≡◌, ◌≤◌, ◌<◌, ◌^◌, ℕ, List, [], ◌∷◌, length, map}
-use Rattle.cdf_edits.proofs.Frame.LinksStay.{SameHeads}
-use Rattle.cdf_edits.proofs.Frame.Meaning.{Kept}
+use Rattle.cdf_edits.specs.Frame.Kept.{SameHeads, Kept}
 use Rattle.cdf_edits.specs.Frame.Changed.{Changed, Touch, touched_field}
 use Rattle.cdf_format.specs.Chains.{next_of}
 use Rattle.cdf_format.specs.Fields.{number, size_at, type_at}

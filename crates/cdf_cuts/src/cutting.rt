@@ -2,8 +2,7 @@
 
 ghost use Rattle.std.specs.Prelude.{◌≡◌, ◌<◌, ◌≤◌, suc, ◌^◌, ◌++◌, ◌+◌, ◌-◌, ◌*◌, List, length, IfOk, OnOk, false};
 ghost use Rattle.cdf_area.specs.Calls.{Edits, Reads};
-ghost use Rattle.cdf_edits.proofs.Edits.LeafRecords.{Ascending};
-ghost use Rattle.cdf_edits.proofs.Edits.VdrEdited.{StandsAmong};
+ghost use Rattle.cdf_edits.specs.Edits.Standing.{Ascending, StandsAmong};
 ghost use Rattle.cdf_format.specs.Fields.{LiesIn};
 ghost use Rattle.cdf_format.specs.Index.{leaves_of};
 ghost use Rattle.cdf_format.specs.Records.{vdr_vxr_head, vdr_vxr_tail, vvr_place};

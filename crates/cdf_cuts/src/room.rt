@@ -4,7 +4,7 @@ ghost use Rattle.std.specs.Prelude.{◌≡◌, ◌+◌, ◌-◌, ◌*◌, ◌≤
 ghost use Rattle.std.specs.Option.{option_map};
 ghost use Rattle.cdf_area.specs.Calls.{Reads};
 ghost use Rattle.cdf_cuts.specs.ClosingRoom.{IsSmall, back_room, front_room, part_room};
-ghost use Rattle.cdf_edits.proofs.Edits.VdrEdited.{StandsAmong};
+ghost use Rattle.cdf_edits.specs.Edits.Standing.{StandsAmong};
 ghost use Rattle.cdf_edits.specs.Commands.Room.{cut_room};
 ghost use Rattle.cdf_format.specs.Content.{variable_of};
 ghost use Rattle.cdf_format.specs.Shape.{VariableShape, shape, variables, vdrs, is_compressed};

@@ -1,9 +1,10 @@
 pub mod DropsEntries
 pub mod Edit
-pub mod ManyMarks
 pub mod EntryMarks
 pub mod FallenNumbers
+pub mod ManyMarks
 pub mod Marks
 pub mod RemovesVariable
+pub mod Standing
 pub mod Unlinks
 pub mod Writes

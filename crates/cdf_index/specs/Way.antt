@@ -1,7 +1,7 @@
 -- The way that an index leads down to the place of a new entry, as code takes it: down along the links, and up again with a write in each node (own).
 use Rattle.std.specs.Prelude.{ℕ, zero, suc, max, List, [], ◌∷◌, false, if◌then◌else◌}
 use Rattle.cdf_edits.specs.Index.Grown.{reaches, chain_reaches, leads_down, with_entry}
-use Rattle.cdf_edits.proofs.Index.NodeEdited.{redo}
+use Rattle.cdf_edits.specs.Index.Redone.{redo}
 use Rattle.cdf_format.specs.Index.{Nodes, no_node, node, Entries, no_entry, block, lower, Leaf}
 
 -- the number of the entry on the way

@@ -1,13 +1,10 @@
 -- How one image goes on to another while records of a variable are put: what holds of each step, and so of several (own).
 use Rattle.std.specs.Prelude.{◌≡◌, ◌⊎◌, ℕ, List, [], ◌∷◌, ◌++◌, length, slice_set}
 use Rattle.std.specs.List.{flat_map}
-use Rattle.cdf_edits.specs.Commands.Allowances.{Stays, r_max_rec_field, shapes_of, space_fields}
+use Rattle.cdf_edits.specs.Commands.Allowances.{Stays, r_max_rec_field, shapes_of, space_fields, ListedStay}
 use Rattle.cdf_edits.specs.Space.Acts.{Act, ActsFollow}
-use Rattle.cdf_edits.proofs.Commands.KeptRecords.{Stood}
-use Rattle.cdf_edits.proofs.Edits.ActsJoined.{ListedStay}
-use Rattle.cdf_edits.proofs.Edits.StandsAmong.{StandsAmong}
-use Rattle.cdf_edits.proofs.Edits.VariableKinds.{other_kind}
-use Rattle.cdf_edits.proofs.Frame.Meaning.{FileSame}
+use Rattle.cdf_edits.specs.Frame.Kept.{Stood, FileSame}
+use Rattle.cdf_edits.specs.Edits.Standing.{StandsAmong, other_kind}
 use Rattle.cdf_format.specs.Content.{content, variable_of}
 use Rattle.cdf_format.specs.Fields.{type_at}
 use Rattle.cdf_format.specs.Owners.{attribute_records, variable_records}

@@ -10,10 +10,8 @@ use Rattle.cdf_edits.specs.Frame.Changed.{Touch, Outside}
 use Rattle.cdf_edits.specs.Index.Blocks.{Range, ranges_of, firsts_of, next_first, first_written, firsts_before_put, ranges_before_put}
 use Rattle.cdf_edits.specs.Index.Grown.{with_ranges, indexes_with, outline}
 use Rattle.cdf_edits.specs.Index.Written.{is_taken_at, NodesFollow, top_chain}
-use Rattle.cdf_edits.specs.Space.Acts.{Act, taken}
-use Rattle.cdf_edits.proofs.Edits.LeafPieces.{IsOneOf, record_place}
-use Rattle.cdf_edits.proofs.Edits.OnlyTaken.{OnlyTakes}
-use Rattle.cdf_edits.proofs.Edits.StandsAmong.{StandsAmong}
+use Rattle.cdf_edits.specs.Space.Acts.{Act, taken, OnlyTakes}
+use Rattle.cdf_edits.specs.Edits.Standing.{IsOneOf, record_place, StandsAmong}
 use Rattle.cdf_format.specs.Bytes.{byte}
 use Rattle.cdf_format.specs.Content.{variable_of}
 use Rattle.cdf_format.specs.Fields.{number, size_at}

@@ -6,7 +6,7 @@ use Rattle.cdf_edits.specs.Commands.Puts.{max_rec_touches}
 use Rattle.cdf_edits.specs.Commands.GreatestRecord.{r_max_rec, greatest_r_max_rec}
 use Rattle.cdf_edits.specs.Frame.Changed.{Changed}
 use Rattle.cdf_edits.specs.Index.Blocks.{range, covers, firsts_of, next_first}
-use Rattle.cdf_edits.proofs.Edits.LeafPieces.{record_place}
+use Rattle.cdf_edits.specs.Edits.Standing.{record_place}
 use Rattle.cdf_format.specs.Bytes.{Same, byte}
 use Rattle.cdf_format.specs.Content.{content}
 use Rattle.cdf_format.specs.Fields.{number, size_at}

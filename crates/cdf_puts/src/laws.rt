@@ -1,7 +1,7 @@
 //! What leaves a good image good, each law as the clause of a function.
 
 ghost use Rattle.std.specs.Prelude.{◌≡◌, ◌+◌, ◌-◌, ◌*◌, ◌≤◌, ℕ, List, length, false};
-ghost use Rattle.cdf_edits.proofs.Edits.StandsAmong.{StandsAmong};
+ghost use Rattle.cdf_edits.specs.Edits.Standing.{StandsAmong};
 ghost use Rattle.cdf_format.specs.Index.{Leaf};
 ghost use Rattle.cdf_format.specs.Shape.{VariableShape, is_compressed};
 ghost use Rattle.cdf_format.specs.VariableFields.{record_bytes};

@@ -2,7 +2,7 @@
 
 ghost use Rattle.std.specs.Prelude.{◌≡◌, ◌+◌, ◌*◌, ◌≤◌, List, length, map, IfOk, OnOk};
 ghost use Rattle.cdf_area.specs.Calls.{Edits};
-ghost use Rattle.cdf_edits.proofs.Edits.VdrEdited.{StandsAmong};
+ghost use Rattle.cdf_edits.specs.Edits.Standing.{StandsAmong};
 ghost use Rattle.cdf_edits.specs.Commands.Room.{node_size, nodes_above, reindex_room};
 ghost use Rattle.cdf_format.specs.Fields.{eof, gdr_offset, number};
 ghost use Rattle.cdf_format.specs.Index.{leaves_of, nodes_of};

@@ -1,7 +1,7 @@
 -- Records from a first to a last go from the index and the blocks of a variable, of which no block is packed, and later ones keep their numbers: what the image has by then (own).
 use Rattle.std.specs.Prelude.{◌≡◌, ◌⊎◌, ◌<◌, ℕ, ◌+◌, ◌-◌, ◌*◌, max, List, [], ◌++◌, take, drop, true, false, ◌&&◌, nat_lt, if◌then◌else◌, Some, None}
 use Rattle.std.specs.declared.option.Option.{Option}
-use Rattle.cdf_edits.proofs.Edits.LeafPieces.{IsOneOf}
+use Rattle.cdf_edits.specs.Edits.Standing.{IsOneOf}
 use Rattle.cdf_edits.specs.Commands.Allowances.{Stays}
 use Rattle.cdf_edits.specs.Commands.GreatestRecord.{r_max_rec}
 use Rattle.cdf_edits.specs.Commands.PutSteps.{BlockWritten, Goes}

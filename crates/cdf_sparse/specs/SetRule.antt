@@ -5,7 +5,7 @@ use Rattle.cdf_model.specs.declared.kinds.Kind.{Kind}
 use Rattle.cdf_model.specs.declared.kinds.Sparse.{Sparse}
 use Rattle.cdf_model.specs.declared.kinds.Sparse.TheVariants.{NoRule, Pad, Previous}
 use Rattle.cdf_cuts.specs.Past.{CutPast, cut_off}
-use Rattle.cdf_edits.proofs.Edits.StandsAmong.{StandsAmong}
+use Rattle.cdf_edits.specs.Edits.Standing.{StandsAmong}
 use Rattle.cdf_edits.specs.Frame.Changed.{Changed, touched_field}
 use Rattle.cdf_format.specs.Fields.{number}
 use Rattle.cdf_format.specs.Records.{vdr_s_records}

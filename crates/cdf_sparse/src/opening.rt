@@ -2,7 +2,7 @@
 
 ghost use Rattle.std.specs.Prelude.{◌≡◌, ◌<◌, ◌≤◌, ◌+◌, ◌-◌, ◌*◌, ◌++◌, List, length, replicate, Some, IfOk, OnOk, false};
 ghost use Rattle.cdf_area.specs.Calls.{Edits, Reads};
-ghost use Rattle.cdf_edits.proofs.Edits.VdrEdited.{StandsAmong};
+ghost use Rattle.cdf_edits.specs.Edits.Standing.{StandsAmong};
 ghost use Rattle.cdf_edits.specs.Commands.Room.{widest};
 ghost use Rattle.cdf_edits.specs.Space.Placing.{IsBody, type_of_body};
 ghost use Rattle.cdf_format.specs.Fields.{number};

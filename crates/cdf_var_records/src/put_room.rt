@@ -2,7 +2,7 @@
 
 ghost use Rattle.std.specs.Prelude.{◌≡◌, ◌≤◌, ◌<◌, ◌+◌, ◌-◌, ◌^◌, suc, length, true, false, IfOk, IfSome, if◌then◌else◌};
 ghost use Rattle.cdf_area.specs.Calls.{Reads};
-ghost use Rattle.cdf_edits.proofs.Edits.LeafRecords.{Ascending};
+ghost use Rattle.cdf_edits.specs.Edits.Standing.{Ascending};
 ghost use Rattle.cdf_edits.specs.Commands.Room.{uncovered};
 ghost use Rattle.cdf_edits.specs.Index.Blocks.{block_count, covered, first_written, is_sparse, ranges_of, wanted_count};
 ghost use Rattle.cdf_format.specs.Fields.{LiesIn, integer4, number};

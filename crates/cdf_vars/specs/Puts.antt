@@ -3,7 +3,7 @@ use Rattle.std.specs.Prelude.{◌≡◌, ◌⊎◌, ◌≤◌, ◌<◌, ℕ, ◌
 use Rattle.std.specs.declared.option.Option.{Option}
 use Rattle.cdf_edits.specs.Answers.{Answers}
 use Rattle.cdf_edits.specs.Commands.Room.{put_room}
-use Rattle.cdf_edits.proofs.Edits.VdrEdited.{StandsAmong}
+use Rattle.cdf_edits.specs.Edits.Standing.{StandsAmong}
 use Rattle.cdf_format.specs.Content.{content, variable_of}
 use Rattle.cdf_format.specs.Fields.{number}
 use Rattle.cdf_format.specs.Records.{vdr_vxr_head}

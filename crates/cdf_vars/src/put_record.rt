@@ -5,7 +5,7 @@ ghost use Rattle.std.specs.Int.{cast_unsigned, w32};
 ghost use Rattle.cdf_puts.specs.declared.starts.Starts.{Starts};
 ghost use Rattle.cdf_area.specs.Calls.{Edits, Reads};
 ghost use Rattle.cdf_cuts.specs.Past.{CutPast, cut_off};
-ghost use Rattle.cdf_edits.proofs.Edits.VdrEdited.{StandsAmong};
+ghost use Rattle.cdf_edits.specs.Edits.Standing.{StandsAmong};
 ghost use Rattle.cdf_edits.specs.Answers.{Answers};
 ghost use Rattle.cdf_edits.specs.Commands.Allowances.{shapes_of};
 ghost use Rattle.cdf_edits.specs.Edits.RemovesVariable.{greatest_at, r_max_writes};

@@ -1,15 +1,10 @@
 -- Records whose bytes stay keep what any command has to leave of them.
 use Rattle.cdf_edits.proofs.Common.{Act, AllKeep, Allowance, Allowances, Anything, AttributeShape, In, In-append_left, In-append_right, Keeps, Kind, List, OneAttribute, OneVariable, Only, Owner, VariableShape, [], allowance, arith, attribute_records, flat_map, inl, inr, owned_by, owned_by_attributes, owned_by_variables, refl, shape, size_kept, suc, variable_records, ℕ, ◌++◌, ◌+◌, ◌∷◌}
-use Rattle.cdf_edits.proofs.Frame.Meaning.{Kept}
+pub use Rattle.cdf_edits.specs.Frame.Kept.{Stood}
 
 pub AllKeep-append : (b now : List ℕ) (may : Allowances) (acts : List Act) (xs ys : List (ℕ × Owner)) → AllKeep b now may acts xs → AllKeep b now may acts ys → AllKeep b now may acts (xs ++ ys)
 AllKeep-append b now may acts [] ys p q = q
 AllKeep-append b now may acts ((place, owner) ∷ xs) ys p q = (p.0, AllKeep-append b now may acts xs ys p.1 q)
-
--- a record that stands in both images with its bytes
-pub record Stood (b now : List ℕ) (m : ℕ) : Type 0 where
-  pub stands : In m (shape now).records
-  pub whole : Kept b now m
 
 pub keeps_stood : (b now : List ℕ) (m : ℕ) → Stood b now m → (a : Allowance) → Keeps b now m a
 keeps_stood b now m st Anything = tt

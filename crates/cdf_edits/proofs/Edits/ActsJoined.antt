@@ -1,7 +1,8 @@
 -- Acts that follow from one image to another, and from there on to a third, follow from the first to the third, where they only take.
-use Rattle.cdf_edits.proofs.Common.{Act, ActsFollow, AreActs, Distinct, Each, Gave, HasLeft, HasShape, In, List, RestStays, SpaceLeft, Stays, Took, [], after_act, ap, arith, byte, false, fold, fold-append, inl, inr, is_taken, length, lies_in_taken, linkable-in, list_any, loose_records, nat_le, nat_lt, nat_tests, refl, shape, size_at, sized, space_before, subst, sym, taken, tile_lies, tiles_lie_apart, uir_next_uir, uir_prev_uir, uir_type, unused, used_records, ℕ, ◌&&◌, ◌++◌, ◌+◌, ◌<◌, ◌∙◌, ◌∷◌, ◌≡◌, ◌≤◌, ◌⊎◌}
+use Rattle.cdf_edits.proofs.Common.{Act, ActsFollow, AreActs, Distinct, Each, Gave, HasLeft, HasShape, In, List, RestStays, SpaceLeft, Took, [], after_act, ap, arith, byte, false, fold, fold-append, inl, inr, length, lies_in_taken, linkable-in, list_any, loose_records, nat_le, nat_lt, nat_tests, refl, shape, size_at, sized, space_before, subst, sym, taken, tile_lies, tiles_lie_apart, uir_type, unused, used_records, ℕ, ◌&&◌, ◌++◌, ◌+◌, ◌<◌, ◌∙◌, ◌∷◌, ◌≡◌, ◌≤◌, ◌⊎◌}
 use Rattle.cdf_edits.proofs.Edits.Common.{Each-in, Once, OnlyTakes, acts_carry, among_sized, each, having, no_rest, none_of_both, stays_bytes, untaken}
 use Rattle.cdf_edits.specs.Space.Acts.{Among}
+pub use Rattle.cdf_edits.specs.Commands.Allowances.{ListedStay}
 
 -- ---- a space with more records in use, and more on no list
 
@@ -56,10 +57,6 @@ pub record Origin (b : List ℕ) (x : ℕ × ℕ) : Type 0 where
   place : ℕ
   listed : In place (shape b).unused
   comes : ((x.0 ≡ place) × (x.1 ≡ size_at b place)) ⊎ ((place < x.0) × (x.0 + x.1 ≤ place + size_at b place))
-
--- a listed record that is not taken changes in its links alone
-abbrev pub ListedStay : List ℕ → List ℕ → List Act → Type 0
-ListedStay b now acts = (m : ℕ) → In m (shape b).unused → is_taken b acts m ≡ false → Stays b now m (uir_next_uir ∷ uir_prev_uir ∷ [])
 
 module _ {b now : List ℕ} {acts : List Act} (h : HasShape b (shape b)) (follow : ActsFollow b now acts) (takes : OnlyTakes acts) where
   left_over : (m : ℕ) → In m (shape now).unused → Among (m, size_at now m) (fold after_act (space_before b) acts).listed

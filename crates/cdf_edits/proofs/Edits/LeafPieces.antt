@@ -1,13 +1,11 @@
 -- Leaves in order, each with its place: how one is found, and the bytes of its records where it is not packed.
-use Rattle.cdf_edits.proofs.Common.{AnyOf, Bool, Each, In, Leaf, List, None, Some, [], ap, arith, both, covers, drop, drop-drop, drop-take, either, eq-eqb, false, find, if◌then◌else◌, inl, inr, le-leb, le_of, leb, lt-leb, ne_eqb, plain_bytes, range, record_bytes, record_number_limit, refl, same_Some, shared, subst, suc, sym, take-take, times, true, vvr_place, zero, ℕ, ◌*◌, ◌+◌, ◌-◌, ◌<◌, ◌==◌, ◌∙◌, ◌∷◌, ◌≡◌, ◌≤◌, ◌⊎◌}
+use Rattle.cdf_edits.proofs.Common.{Bool, Each, In, Leaf, List, None, Some, [], ap, arith, both, covers, drop, drop-drop, drop-take, either, eq-eqb, false, find, if◌then◌else◌, inl, inr, le-leb, le_of, leb, lt-leb, ne_eqb, plain_bytes, range, record_bytes, record_number_limit, refl, same_Some, shared, subst, suc, sym, take-take, times, true, zero, ℕ, ◌*◌, ◌+◌, ◌-◌, ◌<◌, ◌==◌, ◌∙◌, ◌∷◌, ◌≡◌, ◌≤◌, ◌⊎◌}
 use Rattle.std.proofs.Common.{take}
 use Rattle.std.specs.Prelude.{max}
 use Rattle.cdf_edits.proofs.Edits.InRecords.{places_of}
 use Rattle.cdf_edits.proofs.Edits.LeafRecords.{Ascending, count_is}
 use Rattle.cdf_edits.proofs.Frame.OwnersApart.{times-in}
-
-abbrev pub IsOneOf : List Leaf → Leaf → Type 0
-IsOneOf leaves l = AnyOf (λ (other : Leaf). other ≡ l) leaves
+pub use Rattle.cdf_edits.specs.Edits.Standing.{IsOneOf, record_place}
 
 -- ---- what holds of each
 
@@ -130,10 +128,6 @@ part_is b place k n size lt =
     let whole = drop-take (k * size) (n * size - k * size) (drop place b) in
     let same = ap (λ (m : ℕ). drop (k * size) (take m (drop place b))) (part_ends k n size lt) in
     ap (take size) (sym (drop-drop (k * size) place b)) ∙ sym (take-take size (n * size - k * size) (drop (k * size) (drop place b)) (part_fits k n size lt)) ∙ ap (take size) (sym whole ∙ same)
-
--- where a record stands in the image
-abbrev pub record_place : Leaf → ℕ → ℕ → ℕ
-record_place l size k = l.place + vvr_place ((k - l.first) * size)
 
 pub plain_piece : (b : List ℕ) (vdr size k : ℕ) (l : Leaf) → l.packed ≡ false → l.last ≤ record_number_limit → record_bytes b vdr ≡ size → l.first ≤ k → k ≤ l.last → take size (drop ((k - l.first) * size) (plain_bytes b vdr l)) ≡ take size (drop (record_place l size k) b)
 plain_piece b vdr size k l plain small is f t =

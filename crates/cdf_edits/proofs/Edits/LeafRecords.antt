@@ -3,11 +3,7 @@ use Rattle.cdf_edits.proofs.Common.{ -ℤ_one, Leaf, List, None, Option, Some, [
 use Rattle.std.proofs.Common.{take}
 use Rattle.cdf_edits.proofs.Edits.NumberedItems.{Rising, none, one}
 use Rattle.cdf_edits.proofs.Edits.NumberedLookup.{item_here, item_later, none_below, those, rising_those, item_those, none_those}
-
--- each has records from a number on and before another, and the leaves ascend
-abbrev pub Ascending : ℕ → ℕ → List Leaf → Type 0
-Ascending low upto [] = Unit {0}
-Ascending low upto (l ∷ more) = (low ≤ l.first) × (l.first ≤ l.last) × (l.last < upto) × Ascending (suc l.last) upto more
+pub use Rattle.cdf_edits.specs.Edits.Standing.{Ascending}
 
 -- ---- numbers that have no sign
 

@@ -1,12 +1,7 @@
 -- Acts that take records and free none: what they leave of the unused list.
 use Rattle.cdf_edits.proofs.Common.{Act, AreActs, Bool, Each, Gave, Happens, List, SpaceLeft, Took, [], after_act, arith, eof_after, false, fold, if◌then◌else◌, list_any, nat_le, nat_lt, nat_tests, or_parts, place_for, taken, taken_from, ℕ, ◌&&◌, ◌++◌, ◌+◌, ◌-◌, ◌∷◌, ◌≡◌, ◌≤◌, inl, inr, refl}
 use Rattle.cdf_edits.specs.Space.Acts.{Among}
-
--- no record is freed
-abbrev pub OnlyTakes : List Act → Type 0
-OnlyTakes [] = Unit {0}
-OnlyTakes (Took place need ∷ more) = OnlyTakes more
-OnlyTakes (Gave place size ∷ more) = ⊥
+pub use Rattle.cdf_edits.specs.Space.Acts.{OnlyTakes}
 
 -- none of the records that were taken passes a test
 pub none_of_both : (test : ℕ × ℕ → Bool) (xs ys : List Act) → list_any test (taken (xs ++ ys)) ≡ false → (list_any test (taken xs) ≡ false) × (list_any test (taken ys) ≡ false)

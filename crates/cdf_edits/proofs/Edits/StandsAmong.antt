@@ -1,5 +1,5 @@
 -- One variable of a good image among those of its kind: where it stands, and that its links, its records and its rules are as they are to be.
-use Rattle.cdf_edits.proofs.Common.{Good, HasShape, HasVariable, In, In-append_left, IsSound, Kind, List, R, Shape, VariableFits, VariableShape, Z, [], ap, arith, fixed_size, flat_map, good_is_sound, index_types, inl, inr, is_in, is_linkable, leaves_of, length, linkable-in, linkable-type, refl, shape, shapes_of, size_at, subst, sym, tile_lies, true, type_at, type_in, variable_records, variables_chain, vdrs, ℕ, ◌++◌, ◌+◌, ◌∙◌, ◌∷◌, ◌≡◌, ◌≤◌, is_compressed, false, Each, Each-split, variables}
+use Rattle.cdf_edits.proofs.Common.{Good, HasShape, HasVariable, In, In-append_left, IsSound, Kind, List, R, Shape, VariableFits, VariableShape, Z, [], ap, arith, fixed_size, flat_map, good_is_sound, index_types, inl, inr, is_in, is_linkable, leaves_of, length, linkable-in, linkable-type, refl, shape, size_at, subst, sym, tile_lies, true, type_at, type_in, variable_records, variables_chain, vdrs, ℕ, ◌++◌, ◌+◌, ◌∙◌, ◌∷◌, ◌≡◌, ◌≤◌, is_compressed, false, Each, Each-split, variables}
 use Rattle.cdf_format.specs.NotRead.{IsRead}
 use Rattle.cdf_edits.proofs.Edits.PlainVariables.{all_loose}
 use Rattle.cdf_edits.proofs.Edits.InRecords.{places_of}
@@ -10,6 +10,7 @@ use Rattle.cdf_edits.proofs.Edits.VariableFrame.{AreOurs, ours_parts, index_type
 use Rattle.cdf_edits.proofs.Frame.OwnersApart.{all_variable_records}
 use Rattle.cdf_edits.proofs.Edits.VariableKept.{OnlyVariable, only_variable}
 use Rattle.cdf_edits.proofs.Edits.VariableKinds.{kind_chain, kind_ours, of_kind}
+pub use Rattle.cdf_edits.specs.Edits.Standing.{StandsAmong}
 
 pub through : (x y z : ℕ) → x ≤ y → y ≤ z → x ≤ z
 through x y z p q = omega arith
@@ -22,10 +23,6 @@ in_middle (v ∷ before) own after = inr (in_middle before own after)
 pub least_size : (kind : Kind) → 340 ≤ fixed_size (type_in (variables_chain kind))
 least_size R = omega arith
 least_size Z = omega arith
-
--- a variable of a kind, with those in front of it and those behind it
-pub record StandsAmong (b : List ℕ) (kind : Kind) (before : List VariableShape) (own : VariableShape) (after : List VariableShape) : Type 0 where
-  pub was : shapes_of (shape b) kind ≡ before ++ own ∷ after
 
 -- ---- a variable of a good image
 

@@ -4,10 +4,7 @@ use Rattle.cdf_edits.proofs.Edits.VariableFrame.{AreOurs, all_ours, ours_parts, 
 use Rattle.cdf_edits.proofs.Frame.OwnersApart.{flat-append, all_variable_records, times-append, times-three, file_records, all_attribute_records}
 use Rattle.cdf_edits.proofs.Edits.OwnedOnce.{used_times}
 use Rattle.cdf_edits.proofs.Rules.WithoutLinks.{number_rows_kept, number_rows-push}
-
-abbrev pub other_kind : Kind → Kind
-other_kind R = Z
-other_kind Z = R
+pub use Rattle.cdf_edits.specs.Edits.Standing.{other_kind}
 
 -- the variables of each kind, where those of one kind are others
 abbrev pub shapes_with : Shape → Kind → List VariableShape → Kind → List VariableShape

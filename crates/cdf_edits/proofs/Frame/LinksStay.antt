@@ -1,7 +1,8 @@
 -- Tilings, chains and indexes stay where sizes, types and links do.
-use Rattle.cdf_edits.proofs.Common.{AreTiles, Entries, HasNodes, In, In-append_left, In-append_right, IsChain, IsIndex, Leads, Leaf, List, Names, NodeFits, Nodes, SayEntries, SaysEntry, SaysNode, [], ap, arith, block, counted, cvvr_type, entry_count, entry_leaves, inl, inr, integer_kept, is_in, is_in-true, is_linkable, leaves_of, link_to, linkable-in, lower, lower_nodes, map, map-append, min, nat_le, next_kept, next_of, no_entry, no_node, node, nodes_of, number, number_kept, refl, room_at, size_at, size_kept, subst, suc, sym, true, type_at, used_count, vxr_first, vxr_last, vxr_n_entries, vxr_n_used_entries, vxr_offset, vxr_type, zero, ℕ, ◌*◌, ◌+◌, ◌-◌, ◌/◌, ◌==◌, ◌∙◌, ◌∷◌, ◌≡◌, ◌≤◌}
+use Rattle.cdf_edits.proofs.Common.{AreTiles, Entries, HasNodes, In, In-append_left, In-append_right, IsChain, IsIndex, Leads, Leaf, List, Names, NodeFits, Nodes, SayEntries, SaysEntry, SaysNode, [], ap, arith, block, counted, cvvr_type, entry_count, entry_leaves, inl, inr, integer_kept, is_in, is_in-true, is_linkable, leaves_of, link_to, linkable-in, lower, lower_nodes, map, map-append, min, nat_le, next_kept, next_of, no_entry, no_node, node, nodes_of, number, number_kept, refl, room_at, size_at, size_kept, subst, suc, sym, true, used_count, vxr_first, vxr_last, vxr_n_entries, vxr_n_used_entries, vxr_offset, vxr_type, zero, ℕ, ◌*◌, ◌+◌, ◌-◌, ◌/◌, ◌==◌, ◌∙◌, ◌∷◌, ◌≡◌, ◌≤◌}
 use Rattle.std.proofs.Common.{◌&&◌}
 use Rattle.cdf_edits.proofs.Frame.Meaning.{Kept}
+pub use Rattle.cdf_edits.specs.Frame.Kept.{SameHeads}
 
 -- the same sizes, the same tiles
 pub tiles_same : (b now : List ℕ) (from upto : ℕ) (ts : List ℕ) → AreTiles b from upto ts → ((a : ℕ) → In a ts → size_at now a ≡ size_at b a) → AreTiles now from upto ts
@@ -12,12 +13,6 @@ tiles_same b now from upto (a ∷ ts) t same =
       (subst (λ (x : ℕ). 12 ≤ x) (sym here) t.1),
       subst (λ (x : ℕ). AreTiles now (from + x) upto ts) (sym here) (tiles_same b now (from + size_at b a) upto ts t.2 (λ c h. same c (inr h))),
     )
-
--- the sizes and types of records, which may be more now
-pub record SameHeads (b now records records' : List ℕ) : Type 0 where
-  pub sizes : (m : ℕ) → In m records → size_at now m ≡ size_at b m
-  pub types : (m : ℕ) → In m records → type_at now m ≡ type_at b m
-  pub sub : (m : ℕ) → In m records → In m records'
 
 pub leads_same : (b now : List ℕ) (link : ℕ) (ms : List ℕ) (end : ℕ) → Leads b link ms end → ((m : ℕ) → In m ms → next_of now m ≡ next_of b m) → Leads now link ms end
 leads_same b now link [] end l same = l

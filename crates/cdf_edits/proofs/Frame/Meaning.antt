@@ -1,21 +1,8 @@
 -- What records mean stays where their bytes do.
-use Rattle.cdf_edits.proofs.Common.{AttributeFits, AttributeShape, Bool, Byte, DataType, Each, Entry, EntryFits, Field, In, List, Same, Same-part, [], adr_name, adr_scope, aedr_data_type, aedr_num, aedr_num_elems, aedr_value, ap, arith, attribute_of, bytes_kept, cast_signed, counted, cvvr_c_size, cvvr_packed, data_type_in, dimensions_at, entry_bytes, entry_of, false, field_bytes, gdr_offset, has_value, if◌then◌else◌, inl, inr, integer4, is_little, is_positive, is_z, length, name_kept, nat_le, number, number_kept, packed_bytes, pad_field, piece_kept, r_num_dims, r_sizes, record_limit, refl, scope_of, size_at, size_of, subst, sym, true, turned, type_at, type_of, unwrap_or, value_bytes, vdr_r_dim_vary, vdr_r_pad_value, vdr_z_dim_vary, vdr_z_pad_value, w32, w64, with_item, word_kept, ℕ, ℤ, ◌*◌, ◌+◌, ◌∙◌, ◌∷◌, ◌≡◌, ◌≤◌}
+use Rattle.cdf_edits.proofs.Common.{AttributeFits, AttributeShape, Bool, Byte, DataType, Each, Entry, EntryFits, Field, In, List, Same, Same-part, [], adr_name, adr_scope, aedr_data_type, aedr_num, aedr_num_elems, aedr_value, ap, arith, attribute_of, bytes_kept, cast_signed, counted, cvvr_c_size, cvvr_packed, data_type_in, dimensions_at, entry_bytes, entry_of, false, field_bytes, has_value, if◌then◌else◌, inl, inr, integer4, is_little, is_positive, is_z, length, name_kept, nat_le, number, number_kept, packed_bytes, pad_field, piece_kept, record_limit, refl, scope_of, size_at, size_of, subst, sym, true, turned, type_at, type_of, unwrap_or, value_bytes, vdr_r_dim_vary, vdr_r_pad_value, vdr_z_dim_vary, vdr_z_pad_value, w32, w64, with_item, word_kept, ℕ, ℤ, ◌*◌, ◌+◌, ◌∙◌, ◌∷◌, ◌≡◌, ◌≤◌}
 use Rattle.std.proofs.Common.{is_some, ◌&&◌}
 use Rattle.cdf_format.specs.Content.{entries_of}
-
--- what the CDR and the GDR say of other records
-pub record FileSame (b now : List ℕ) : Type 0 where
-  pub longer : length b ≤ length now
-  pub gdr_is : gdr_offset now ≡ gdr_offset b
-  pub little : is_little now ≡ is_little b
-  pub dimensions : r_num_dims now (gdr_offset now) ≡ r_num_dims b (gdr_offset b)
-  pub sizes : r_sizes now (gdr_offset now) ≡ r_sizes b (gdr_offset b)
-
--- the bytes of a record
-pub record Kept (b now : List ℕ) (m : ℕ) : Type 0 where
-  pub same : Same b now m (m + size_at b m)
-  pub inside : m + size_at b m ≤ length b
-  pub long : 12 ≤ size_at b m
+pub use Rattle.cdf_edits.specs.Frame.Kept.{FileSame, Kept}
 
 -- the bytes of a record but for its next field
 pub record KeptButLink (b now : List ℕ) (m : ℕ) : Type 0 where

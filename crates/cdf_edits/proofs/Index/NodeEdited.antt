@@ -1,21 +1,8 @@
 -- One node of an index is edited, with the chain behind it: where all other nodes stay, the new image has the edited index.
-use Rattle.cdf_edits.proofs.Common.{arith, Distinct, Distinct-back, Distinct-front, Entries, HasNodes, In, In-append_left, In-append_right, IsNode, Leaf, List, Names, NodeFits, Nodes, SayEntries, SaysEntry, SaysNode, ap, block, cases_eq, entry_count, entry_leaves, eq-eqb, eqb, false, if◌then◌else◌, inl, inr, leaves_of, link_to, lower, lower_nodes, map, map-append, nat_tests, ne_eqb, no_entry, no_node, node, nodes_of, refl, subst, suc, sym, true, zero, ℕ, ◌++◌, ◌==◌, ◌∙◌, ◌≡◌, ◌≢◌}
+use Rattle.cdf_edits.proofs.Common.{arith, Distinct, Distinct-back, Distinct-front, Entries, HasNodes, In, In-append_left, In-append_right, IsNode, Leaf, List, Names, NodeFits, Nodes, SayEntries, SaysEntry, SaysNode, ap, block, cases_eq, entry_count, entry_leaves, eq-eqb, eqb, false, inl, inr, leaves_of, link_to, lower, lower_nodes, map, map-append, nat_tests, ne_eqb, no_entry, no_node, node, nodes_of, refl, subst, suc, sym, true, zero, ℕ, ◌++◌, ◌∙◌, ◌≡◌, ◌≢◌}
 use Rattle.cdf_edits.proofs.Edits.Common.{Kept, SameHeads, names_kept, node_kept, nodes_kept}
-
--- what becomes of a node with so much room, these entries and this chain behind it
-abbrev pub Edit : Type 0
-Edit = ℕ → Entries → Nodes → Nodes
-
-unfoldable mutual
-  -- the node at a place becomes what the edit makes of it
-  pub redo : ℕ → Edit → Nodes → Nodes
-  redo at edit no_node = no_node
-  redo at edit (node place room entries more) = if place == at then edit room entries more else node place room (redo_below at edit entries) (redo at edit more)
-
-  pub redo_below : ℕ → Edit → Entries → Entries
-  redo_below at edit no_entry = no_entry
-  redo_below at edit (block first last place packed entries) = block first last place packed (redo_below at edit entries)
-  redo_below at edit (lower first last nodes entries) = lower first last (redo at edit nodes) (redo_below at edit entries)
+pub use Rattle.cdf_edits.specs.Index.Redone.{Edit}
+unfoldable pub use Rattle.cdf_edits.specs.Index.Redone.{redo, redo_below}
 
 -- what an edit of the node at a place owes, the rest having moved over to the new image
 pub record Owed (b now records records' : List ℕ) (at : ℕ) (edit : Edit) : Type 0 where

@@ -80,6 +80,10 @@ abbrev pub AllKeep : List ℕ → List ℕ → Allowances → List Act → List 
 AllKeep b now allowances acts [] = Unit {0}
 AllKeep b now allowances acts ((place, owner) ∷ more) = Keeps b now place (allowance b (shape b) allowances acts place owner) × AllKeep b now allowances acts more
 
+-- a listed record that is not taken changes in its links alone
+abbrev pub ListedStay : List ℕ → List ℕ → List Act → Type 0
+ListedStay b now acts = (m : ℕ) → In m (shape b).unused → is_taken b acts m ≡ false → Stays b now m (uir_next_uir ∷ uir_prev_uir ∷ [])
+
 -- ---- of a record that is freed
 
 -- the part of an unused record behind its links that lies in the record of this place and size, and in none that acts took, but for these fields of that

@@ -116,3 +116,9 @@ pub record ActsFollow (b now : List ℕ) (acts : List Act) : Type 0 where
   pub are : AreActs (space_before b) acts
   pub left : HasLeft now (fold after_act (space_before b) acts)
   pub rests : Each (λ split. Each (RestStays b now acts split) (shape now).unused) (shape b).unused
+
+-- no record is freed
+abbrev pub OnlyTakes : List Act → Type 0
+OnlyTakes [] = Unit {0}
+OnlyTakes (Took place need ∷ more) = OnlyTakes more
+OnlyTakes (Gave place size ∷ more) = ⊥
