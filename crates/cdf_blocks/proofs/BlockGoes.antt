@@ -1,7 +1,7 @@
 -- An image goes on to one in which the block of one leaf is another one: what a step of a put asks of all else.
 use Rattle.cdf_blocks.proofs.Common.{Bool, In, IsOneOf, Leaf, List, Nodes, [], ap, cases_eq, eq-eqb, inl, inr, length, refl, room_at, sym, top_chain, true, used_count, ℕ, ◌<◌, ◌∙◌, ◌∷◌, ◌≡◌, ◌≢◌, ◌≤◌}
 unfoldable use Rattle.cdf_blocks.proofs.Common.{leaves_of, nodes_of}
-use Rattle.cdf_blocks.proofs.GoesKeep.{each_own, goes_keep}
+use Rattle.cdf_puts.proofs.GoesKeep.{each_own, goes_keep}
 use Rattle.cdf_edits.proofs.Edits.Common.{each}
 use Rattle.cdf_edits.proofs.Commands.KeptRecords.{Stood, keeps_stood}
 use Rattle.cdf_edits.proofs.Common.{Act, AllKeep, Allowance, Allowances, Field, FreedStay, Good, Keeps, Kind, Option, Range, Stays, VariableShape, no_fields, number, owned, range, range_at, shape, space_fields, variable_records, vdr_vxr_head, vdr_vxr_tail}

@@ -5,7 +5,6 @@ pub mod BlockBytes
 pub mod BlockOf
 pub mod KeptRules
 pub mod InPlace
-pub mod GoesKeep
 pub mod BlockGoes
 pub mod InPlaceGoes
 pub mod NewBlock

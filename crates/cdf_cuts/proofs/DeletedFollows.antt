@@ -31,7 +31,7 @@ use Rattle.cdf_puts.proofs.GoesThen.{later_size, own_there, stays, variable_ther
 use Rattle.cdf_puts.proofs.PutRules.{no_cpr}
 use Rattle.cdf_puts.proofs.Common.{same_Some, same_as_itself}
 use Rattle.cdf_index.proofs.OwnRecords as of_own
-use Rattle.cdf_cuts.proofs.GoesKeep.{each_own}
+use Rattle.cdf_puts.proofs.GoesKeep.{each_own}
 use Rattle.cdf_puts.specs.Going.{GoesOn, found_in, put_fields}
 use Rattle.cdf_puts.specs.Steps.{MaxRecRaised}
 use Rattle.cdf_cuts.proofs.BlocksMoved.{piece_shifted}
@@ -39,7 +39,7 @@ use Rattle.cdf_cuts.proofs.ChainKept.{top_cut}
 use Rattle.cdf_cuts.proofs.ClosedUp.{fallen_high, fallen_low, fallen_rises, risen}
 use Rattle.cdf_cuts.proofs.CutStay.{nodes_left}
 use Rattle.cdf_cuts.proofs.FreedKept.{given_filter, given_nodes}
-use Rattle.cdf_cuts.proofs.GoesKeep.{goes_keep}
+use Rattle.cdf_puts.proofs.GoesKeep.{goes_keep}
 use Rattle.cdf_cuts.proofs.GreatestLowered.{greatest_lowered}
 use Rattle.cdf_cuts.proofs.LeavesKept.{BlocksKeep, ends, stored_kept, to_ends}
 use Rattle.cdf_cuts.proofs.RecordsClosed.{StoresCut, records_closed}

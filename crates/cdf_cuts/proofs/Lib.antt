@@ -30,7 +30,6 @@ pub mod CutGoes
 pub mod WritesThen
 pub mod BlocksClosed
 pub mod FreedKept
-pub mod GoesKeep
 pub mod GreatestLowered
 pub mod DeletedFollows
 pub mod LaterFound

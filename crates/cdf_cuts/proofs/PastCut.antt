@@ -31,7 +31,7 @@ use Rattle.cdf_cuts.proofs.CutGoes.{block_stays, cut_goes, entries_say, freed_no
 use Rattle.cdf_cuts.proofs.CutStay.{nodes_left, to_left}
 use Rattle.cdf_cuts.proofs.CutWhole.{meets, rest_order}
 use Rattle.cdf_cuts.proofs.CutWords.{cut}
-use Rattle.cdf_cuts.proofs.GoesKeep.{each_own, goes_keep}
+use Rattle.cdf_puts.proofs.GoesKeep.{each_own, goes_keep}
 use Rattle.cdf_cuts.proofs.PastKept.{kept_same, same_index, some_left}
 use Rattle.cdf_cuts.specs.Cut.{IsCut}
 use Rattle.cdf_cuts.specs.Past.{CutPast, before_first, cut_off, past_acts, past_span, stage}

@@ -6,7 +6,7 @@ use Rattle.cdf_puts.proofs.DoneBytes as putting
 use Rattle.cdf_puts.proofs.DoneBytes.{block_stays}
 use Rattle.cdf_puts.proofs.PutBytes.{old_size, whole}
 use Rattle.cdf_puts.proofs.PutRules.{no_cpr}
-use Rattle.cdf_cuts.proofs.GoesKeep.{each_own, goes_keep}
+use Rattle.cdf_puts.proofs.GoesKeep.{each_own, goes_keep}
 use Rattle.cdf_cuts.specs.Past.{cut_off, past_acts}
 use Rattle.cdf_gaps.proofs.CutPutBytes.{is_left, stays_left}
 use Rattle.cdf_gaps.proofs.CutThenPut.{CutThenPut, variable_mid}

@@ -2,6 +2,7 @@ pub mod Common
 pub mod CoveringRanges
 pub mod DoneBytes
 pub mod GoesThen
+pub mod GoesKeep
 pub mod IndexAdded
 pub mod IndexWritten
 pub mod KnownStarts

@@ -16,7 +16,7 @@ use Rattle.cdf_puts.proofs.Common.{same_as_itself}
 use Rattle.cdf_puts.proofs.GoesThen.{own_there}
 use Rattle.cdf_puts.proofs.PutRules.{no_cpr}
 use Rattle.cdf_puts.specs.Going.{found_in}
-use Rattle.cdf_cuts.proofs.GoesKeep.{each_own, goes_keep}
+use Rattle.cdf_puts.proofs.GoesKeep.{each_own, goes_keep}
 use Rattle.cdf_cuts.proofs.PastFollows.{none_left}
 use Rattle.cdf_cuts.specs.Past.{CutPast, before_first, cut_off, past_acts, stage}
 use Rattle.cdf_edits.specs.Commands.Deleting.{CutsOpen, LeafKept, LeafSplit, untouched}

@@ -24,7 +24,7 @@ use Rattle.cdf_cuts.proofs.ChainKept.{top_left}
 use Rattle.cdf_cuts.proofs.CutDone.{each_from}
 use Rattle.cdf_cuts.proofs.CutFreed.{cut_marks, edit, freed_avoids, types, vdr_apart}
 use Rattle.cdf_cuts.proofs.CutGoes.{entries_say, freed_now, same_records, sizes_now, spare_stays, tail_now}
-use Rattle.cdf_cuts.proofs.GoesKeep.{each_own, goes_keep}
+use Rattle.cdf_puts.proofs.GoesKeep.{each_own, goes_keep}
 use Rattle.cdf_cuts.proofs.PastCut.{aside, space_tests}
 use Rattle.cdf_cuts.specs.Cut.{IsCut}
 use Rattle.cdf_cuts.specs.Past.{stage}

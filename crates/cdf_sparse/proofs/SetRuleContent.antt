@@ -14,7 +14,7 @@ use Rattle.cdf_index.proofs.OwnRecords as of_own
 use Rattle.cdf_model.specs.declared.kinds.Sparse.{Sparse}
 use Rattle.cdf_model.specs.declared.kinds.Sparse.TheVariants.{NoRule, Pad, Previous}
 use Rattle.cdf_puts.specs.Going.{IsOther, LooseStay, found_in}
-use Rattle.cdf_cuts.proofs.GoesKeep.{each_own, unused_stays}
+use Rattle.cdf_puts.proofs.GoesKeep.{each_own, unused_stays}
 use Rattle.cdf_cuts.proofs.PastContent.{content_past, variable_past}
 use Rattle.cdf_cuts.proofs.PastFollows.{none_left}
 use Rattle.cdf_cuts.proofs.WritesThen.{links}

@@ -6,7 +6,7 @@ use Rattle.cdf_edits.specs.Index.Blocks.{extent_after}
 use Rattle.cdf_index.proofs.OwnRecords as of_own
 use Rattle.cdf_puts.proofs.PutRules.{no_cpr}
 use Rattle.cdf_cuts.proofs.CutStay.{LeftOf, nodes_left, to_left}
-use Rattle.cdf_cuts.proofs.GoesKeep.{each_own, goes_keep}
+use Rattle.cdf_puts.proofs.GoesKeep.{each_own, goes_keep}
 use Rattle.cdf_cuts.proofs.PastFollows as cutting
 use Rattle.cdf_cuts.proofs.PastKept.{front, same_index, some_left}
 use Rattle.cdf_cuts.specs.Past.{cut_off, past_acts, past_span}

@@ -1,6 +1,5 @@
 -- An image goes on while one variable changes: all other records keep what they have to.
-use Rattle.cdf_blocks.proofs.Common.{In, In-append, Leaf, List, arith, inl, inr, length, places_of, refl, suc, ℕ, ◌++◌, ◌==◌}
-unfoldable use Rattle.cdf_blocks.proofs.Common.{leaves_of, nodes_of}
+use Rattle.cdf_index.proofs.Common.{In, In-append, Leaf, List, arith, inl, inr, leaves_of, length, nodes_of, places_of, refl, suc, ℕ, ◌++◌, ◌==◌}
 use Rattle.cdf_edits.proofs.Common.{type_at}
 use Rattle.cdf_edits.proofs.Common.{Act, AllKeep, Allowances, Good, Keeps, Kind, OneVariable, Unused, VariableShape, eqb-true, false-is_in, owned, shape, shapes_of, true-is_in, uir_type, unused_allowance, unused_records, variable_records}
 use Rattle.cdf_edits.proofs.Commands.KeptRecords.{keep_attributes, keep_variables, keeps_stood}
