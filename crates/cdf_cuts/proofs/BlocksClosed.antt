@@ -12,7 +12,7 @@ use Rattle.cdf_index.proofs.LeafRules.{index_order}
 use Rattle.cdf_index.specs.Order.{InOrder}
 use Rattle.cdf_cuts.proofs.BlocksMoved.{leaf_stays, times_add}
 use Rattle.cdf_cuts.proofs.ClosedUp.{fallen_high, fallen_rises}
-use Rattle.cdf_cuts.proofs.CutFreed.{own_most}
+use Rattle.cdf_cuts.proofs.CutFreed.{own_most, plain_left}
 use Rattle.cdf_cuts.proofs.CutGoes.{block_stays, cut_goes, freed_now, long_now, max_rec_now, nodes_follow, r_max_rec_now, sizes_now, tail_now}
 use Rattle.cdf_cuts.proofs.CutStay.{nodes_left, to_left}
 use Rattle.cdf_cuts.proofs.CutWhole.{meets, rest_order}
@@ -44,8 +44,8 @@ module _ {b mid : List ℕ} {kind : Kind} {before : List VariableShape} {own : V
   plain : (l : Leaf) → IsOneOf leaves l → PlainLeaf b size l
   plain l i = plain_leaf good at loose l i
 
-  unpacked : Each (λ (l : Leaf). l.packed ≡ false) leaves
-  unpacked = each_of (λ (l : Leaf). l.packed ≡ false) leaves (λ l i. (plain l i).plain)
+  unpacked : Each (λ (l : Leaf). l.packed ≡ false) (leaves_of (cut (closing first last) own.index))
+  unpacked = plain_left (closing first last) own.index (each_of (λ (l : Leaf). l.packed ≡ false) leaves (λ l i. (plain l i).plain))
 
   in_order : InOrder 0 record_number_limit (cut (closing first last) own.index)
   in_order = rest_order first last true own.index order (index_order b (shape b).records own.vdr own.index (own_rules good at).1)

@@ -4,7 +4,7 @@ use Rattle.std.proofs.Common.{bytes_eq, not, ◌&&◌}
 use Rattle.std.specs.List.{list_any}
 use Rattle.cdf_cuts.proofs.CutWords.{cut, cut_below, words_are, words_of}
 use Rattle.cdf_edits.proofs.Common.{either}
-unfoldable use Rattle.cdf_edits.specs.Index.Grown.{cut_entries, cut_nodes}
+unfoldable use Rattle.cdf_edits.specs.Index.Grown.{cut_nodes}
 use Rattle.cdf_edits.specs.Index.Grown.{node_if}
 use Rattle.cdf_edits.specs.Index.Written.{is_taken_at, last_node, top_chain, top_stays}
 use Rattle.cdf_edits.specs.Space.Acts.{Act, taken}

@@ -181,10 +181,8 @@ module _ {b linked : List ℕ} {kind : Kind} {before : List VariableShape} {own 
         let high = (tile_lies now 8 (length now) s.records m edit.tiled_now there).high in
         rw (of_le (number now m vxr_n_used_entries) (room_at now m) count, of_le (room_at now m) signed_limit (omega (arith, fit, high, freed_long frees, short)), of_le (28 + 16 * room_at now m) (size_at now m) fit) refl
 
-    module _ (in_order : InOrder 0 record_number_limit rest) (plain : Each (λ (l : Leaf). l.packed ≡ false) (leaves_of own.index)) (short : length b ≤ image_limit) where
-      plain_now : Each (λ (l : Leaf). l.packed ≡ false) (leaves_of rest)
-      plain_now = each_left span (λ (l : Leaf). l.packed ≡ false) (λ (l : Leaf). l.packed ≡ false) (λ l p m left. left.packed_is ∙ p) own.index plain
-
+    -- where no block that stays is packed
+    module _ (in_order : InOrder 0 record_number_limit rest) (plain_now : Each (λ (l : Leaf). l.packed ≡ false) (leaves_of rest)) (short : length b ≤ image_limit) where
       leaf_ruled : (l : Leaf) → IsOneOf (leaves_of rest) l → (is_block now s.records l.place ≡ true) × Hold (leaf_rows now s.records own.vdr l)
       leaf_ruled l i =
           let f = of_each (LeafFits now s.records own.vdr) (leaves_of rest) l fits_then.2 i in
@@ -203,3 +201,7 @@ module _ {b linked : List ℕ} {kind : Kind} {before : List VariableShape} {own 
           let end_b : eof b s.gdr ≡ length b = rw g at (good_eof b good) in
           let end : eof now s.gdr ≡ length now = gdr_still frees gdr_eof (omega arith) ∙ gdr_field (sound good at) x.edit clear.tests.file_clear gdr_eof clear.end_clear (omega arith) ∙ end_b ∙ sym (freed_long frees) in
           of_index.good_now good at whole rows (ap is_max_rec max_kept ∙ (own_rules good at).0.1.1.1.1.1.1.1.0) owned_now end (omega (arith, freed_long frees, short))
+
+-- no block that stays is packed where none was
+pub plain_left : (span : Span) (nodes : Nodes) → Each (λ (l : Leaf). l.packed ≡ false) (leaves_of nodes) → Each (λ (l : Leaf). l.packed ≡ false) (leaves_of (cut span nodes))
+plain_left span nodes plain = each_left span (λ (l : Leaf). l.packed ≡ false) (λ (l : Leaf). l.packed ≡ false) (λ l p m left. left.packed_is ∙ p) nodes plain

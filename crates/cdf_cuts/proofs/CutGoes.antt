@@ -232,7 +232,7 @@ module _ {b linked : List ℕ} {kind : Kind} {before : List VariableShape} {own 
         ] in
         kept_then k (size_linked m there) l
 
-    module _ (in_order : InOrder 0 record_number_limit rest) (plain : Each (λ (l : Leaf). l.packed ≡ false) (leaves_of own.index)) where
+    module _ (in_order : InOrder 0 record_number_limit rest) (plain : Each (λ (l : Leaf). l.packed ≡ false) (leaves_of rest)) where
       abbrev marks : List Mark
       marks = index_marks kind own.vdr (nodes_of own.index) (record { place = 12; width = length b })
 

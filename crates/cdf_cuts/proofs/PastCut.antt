@@ -26,7 +26,7 @@ use Rattle.cdf_puts.proofs.PutRules.{no_cpr}
 use Rattle.cdf_puts.specs.Going.{GoesOn, found_in}
 use Rattle.cdf_cuts.proofs.ChainKept.{top_left}
 use Rattle.cdf_cuts.proofs.CutDone.{each_from}
-use Rattle.cdf_cuts.proofs.CutFreed.{cut_marks, edit, freed_avoids, own_most, stays_used, types, vdr_apart}
+use Rattle.cdf_cuts.proofs.CutFreed.{cut_marks, edit, freed_avoids, own_most, plain_left, stays_used, types, vdr_apart}
 use Rattle.cdf_cuts.proofs.CutGoes.{block_stays, cut_goes, entries_say, freed_now, long_now, max_rec_now, r_max_rec_now, same_records, spare_stays, tail_now}
 use Rattle.cdf_cuts.proofs.CutStay.{nodes_left, to_left}
 use Rattle.cdf_cuts.proofs.CutWhole.{meets, rest_order}
@@ -73,8 +73,8 @@ module _ {b now : List ℕ} {kind : Kind} {before : List VariableShape} {own : V
   plain : (l : Leaf) → IsOneOf leaves l → PlainLeaf b (record_bytes b own.vdr) l
   plain l i = plain_leaf good at loose l i
 
-  unpacked : Each (λ (l : Leaf). l.packed ≡ false) leaves
-  unpacked = each_of (λ (l : Leaf). l.packed ≡ false) leaves (λ l i. (plain l i).plain)
+  unpacked : Each (λ (l : Leaf). l.packed ≡ false) (leaves_of (cut (past_span first) own.index))
+  unpacked = plain_left (past_span first) own.index (each_of (λ (l : Leaf). l.packed ≡ false) leaves (λ l i. (plain l i).plain))
 
   in_order : InOrder 0 record_number_limit rest
   in_order = rest_order first (max first 2147483646) false own.index order was_order

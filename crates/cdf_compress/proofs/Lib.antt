@@ -1,0 +1,14 @@
+pub mod AllContent
+pub mod AllCut
+pub mod AlreadyPacked
+pub mod CompressionCalls
+pub mod CompressionFollows
+pub mod CompressionKeeps
+pub mod FreedKept
+pub mod PackEdited
+pub mod PackingCalls
+pub mod PackingWritten
+pub mod RepackedRules
+pub mod RepackedVdr
+pub mod TurnedOff
+pub mod TurnedOn

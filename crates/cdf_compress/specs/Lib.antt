@@ -1,0 +1,3 @@
+pub mod Compressing
+pub mod Emptying
+pub mod Repacking
