@@ -1,15 +1,15 @@
 -- What a leaf more makes of an image: its block is placed, then a node is taken where one is needed, and then entries are written (CDF Internal Format Description, "Variable Index Record"; own: the order).
-use Rattle.std.specs.Prelude.{◌≡◌, ◌⊎◌, ◌≤◌, ◌<◌, ℕ, zero, suc, ◌+◌, List, [], ◌∷◌, length, false, bytes_eq, if◌then◌else◌}
+use Rattle.std.specs.Prelude.{◌≡◌, ◌⊎◌, ◌≤◌, ◌<◌, ℕ, zero, suc, ◌+◌, List, [], ◌∷◌, ◌==◌, length, bytes_eq, if◌then◌else◌}
 use Rattle.cdf_edits.specs.Frame.Changed.{Touch, Changed}
 use Rattle.cdf_edits.specs.Index.Grown.{with_leaf, new_room}
 use Rattle.cdf_edits.specs.Index.Written.{UnusedEntries, top_chain, last_node}
 use Rattle.cdf_edits.specs.Space.Acts.{Act, Took}
-use Rattle.cdf_edits.specs.Space.Placing.{Fills, Placed}
+use Rattle.cdf_edits.specs.Space.Placing.{Fills, Placed, type_of_body}
 use Rattle.cdf_format.specs.Fields.{number}
 use Rattle.cdf_format.specs.Index.{Nodes, Leaf, leaf, nodes_of, room_at}
 use Rattle.cdf_format.specs.IndexOf.{IsIndex}
 use Rattle.cdf_format.specs.Records.{vdr_vxr_head, vdr_vxr_tail, vxr_n_used_entries, vxr_bytes, past, record_type}
-use Rattle.cdf_format.specs.RecordTypes.{vxr_type}
+use Rattle.cdf_format.specs.RecordTypes.{vxr_type, cvvr_type}
 use Rattle.cdf_format.specs.Shape.{VariableShape, Each, shape}
 use Rattle.cdf_format.specs.Sound.{NodeFits}
 use Rattle.cdf_format.specs.Tiles.{In}
@@ -67,8 +67,8 @@ pub record LeafAdded (b now : List ℕ) (own : VariableShape) (new : Leaf) (body
   pub tail : TailGoesOn b now own.vdr own.index (with_leaf new at own.index)
   pub unused : Each (UnusedEntries b now (own.index ∷ []) (nodes_of own.index) (leaf_acts new.place (8 + length body) (new_room new.first own.index) at)) (nodes_of (with_leaf new at own.index))
 
--- the same, wherever the block and the node stand
+-- the same, wherever the block and the node stand; the leaf is packed where the block is
 pub record AddsLeaf (b now : List ℕ) (own : VariableShape) (first last : ℕ) (body : List ℕ) : Type 0 where
   pub place : ℕ
   pub at : ℕ
-  pub added : LeafAdded b now own (leaf first last place false) body at
+  pub added : LeafAdded b now own (leaf first last place (type_of_body body == cvvr_type)) body at

@@ -1,5 +1,5 @@
 -- What the calls ask for that add a leaf, and what they leave.
-use Rattle.cdf_leaves.proofs.Common.{Way, name_room, Good, In, IsBody, good_eof, good_is_sound, image_limit, type_of_body, variables, vdrs, vvr_type, widest, ◌≤◌, Added, Each-map, EntryPut, HasEnd, IndexStarted, IsAmong, IsStart, IsWay, List, MayAdd, MayPut, Placed, PutAlong, StandsAmong, StartsAt, TailSet, VariableShape, WayStands, [], ap, arith, entry, eof, gdr_offset, index_at, length, max, number, one_of, rules, seven_at_least, shape, sound, starts_at, vdr_vxr_head, vxr_bytes, ℕ, ◌++◌, ◌+◌, ◌∙◌, ◌∷◌, ◌≡◌, ◌≢◌, ◌⊎◌}
+use Rattle.cdf_leaves.proofs.Common.{Way, name_room, Good, In, IsBody, good_eof, good_is_sound, image_limit, type_of_body, variables, vdrs, IsBlockType, widest, ◌≤◌, Added, Each-map, EntryPut, HasEnd, IndexStarted, IsAmong, IsStart, IsWay, List, MayAdd, MayPut, Placed, PutAlong, StandsAmong, StartsAt, TailSet, VariableShape, WayStands, [], ap, arith, entry, eof, gdr_offset, index_at, length, max, number, one_of, rules, seven_at_least, shape, sound, starts_at, vdr_vxr_head, vxr_bytes, ℕ, ◌++◌, ◌+◌, ◌∙◌, ◌∷◌, ◌≡◌, ◌≢◌, ◌⊎◌}
 use Rattle.cdf_edits.proofs.Edits.RecordGrown.{ends as ends_now}
 use Rattle.cdf_leaves.proofs.LeafGrown.{first_added, grown_stays, grown_tail, may_put, tail_ready, vdr_lies, way_ready, wide_enough}
 use Rattle.cdf_leaves.proofs.Own.{searchable}
@@ -11,7 +11,7 @@ own_at b vdr i = record (one_of b vdr i).own { vdr = vdr }
 among_kind : (b : List ℕ) (vdr : ℕ) (i : In vdr (vdrs (variables (shape b)))) → StandsAmong b (one_of b vdr i).kind (one_of b vdr i).before (own_at b vdr i) (one_of b vdr i).after
 among_kind b vdr i = let o = one_of b vdr i in record { was = o.among.was ∙ ap (λ (k : ℕ). o.before ++ record o.own { vdr = k } ∷ o.after) o.vdr_is }
 
-pub may_add : {b : List ℕ} {limit vdr : ℕ} {body : List ℕ} → Good b → In vdr (vdrs (variables (shape b))) → IsBody body → type_of_body body ≡ vvr_type → length b + (8 + length body) + vxr_bytes (widest (index_at b (number b vdr vdr_vxr_head))) ≤ limit → limit ≤ image_limit → MayAdd b limit vdr body
+pub may_add : {b : List ℕ} {limit vdr : ℕ} {body : List ℕ} → Good b → In vdr (vdrs (variables (shape b))) → IsBody body → IsBlockType (type_of_body body) → length b + (8 + length body) + vxr_bytes (widest (index_at b (number b vdr vdr_vxr_head))) ≤ limit → limit ≤ image_limit → MayAdd b limit vdr body
 may_add {b = b} {vdr = vdr} good i is_body type_is room short =
     record { good = good; sound = good_is_sound b good; ends = good_eof b good; lies = omega (arith, name_room good (among_kind b vdr i)); seven = seven_at_least (index_at b (number b vdr vdr_vxr_head)); vdr_in = i; is_body = is_body; block = type_is; room = room; short = short }
 

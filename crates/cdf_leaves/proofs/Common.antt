@@ -34,7 +34,7 @@ pub use Rattle.cdf_index.specs.declared.descending.Spot.{Spot}
 pub use Rattle.cdf_index.specs.declared.descending.Step.{Step}
 pub use Rattle.cdf_index.specs.declared.descending.Way.{Way}
 pub use Rattle.cdf_index.specs.declared.entries.Entry.{Entry}
-pub use Rattle.cdf_leaves.specs.Added.{Added, IsWay, MayAdd, PutAlong, entry}
+pub use Rattle.cdf_leaves.specs.Added.{Added, IsBlockType, IsWay, MayAdd, PutAlong, entry}
 pub use Rattle.cdf_leaves.specs.Putting.{ChainMade, EntryPut, IndexStarted, MayPut, NodeMade, SplitMade}
 pub use Rattle.cdf_leaves.specs.Tail.{EndsIn, HasEnd, IsEnd, TailSet}
 pub use Rattle.cdf_leaves.specs.Widening.{StepStands, WayStands, WidenedAlong}

@@ -1,5 +1,5 @@
 -- A leaf more in an index, from the image in which its block was placed: what was done step by step is what a leaf more makes of the image.
-use Rattle.cdf_leaves.proofs.Common.{Touched, Way, from_reached, leaf_rest, name_room, rest_among, rest_has, rest_last, rest_once, seven_at_least, touched, AddsLeaf, AreTiles, Begins, Bool, Chained, ChainMade, Changed, Comes, Counts, Distinct, Each, Each-append, Each-map, Edit, EndsIn, Entry, EntryIs, EntryPut, Field, FieldSet, Good, Grew, HasEnd, HasNodes, In, IndexTouch, Inserted, IsAmong, IsWay, Kept, Kind, Leaf, List, MayName, MayPut, Names, NodeFits, NodeMade, NodeTaken, NodeWritten, Nodes, Owed, Placed, PutAlong, SaysEntry, SaysNode, SaysUnused, SplitMade, StandsAmong, Step, StepSays, StepStands, StillSays, TailGoesOn, TailSet, Touch, UnusedEntries, VariableShape, WayStands, Widened, WidenedAlong, [], ap, apart, arith, begins_by, bytes_eq, cases_eq, cases_lt, changed_again, changed_then, changed_wider, comes, each, each_in, entries_beside, entry, entry_past, false, field_set, fits, gdr_type, grew, grew_none, grew_then, has, in_nodes_with_leaf, index_at, inl, inr, is_in-true, is_linkable, kept_then, last_node, le-leb, leaf, leaf_acts, leaves_of, leb, length, length-le_from_distinct, length-map, length_tiles, link_to, linkable-from, linkable_kept, long, lt-leb, made, map, max, nat_tests, new_room, nil_from_length, no_entry, no_node, no_zero, node, node_head, node_stays, nodes_kept, nodes_of, nothing_changed, number, number_kept, placed, places_of, record_number_limit, redo, redone, refl, room_at, rules, same_node, shape, size_at, size_kept, sound, stands, step_pair, subst, suc, sym, tile_lies, top_chain, touch, true, type_at, type_of_body, uir_type, unlike, used_count, vdr_vxr_head, vdr_vxr_tail, vvr_type, vxr_n_used_entries, vxr_type, vxr_vxr_next, was_unused, way, widen_all, widest, with_block, with_field, with_leaf, zero, ℕ, ◌*◌, ◌++◌, ◌+◌, ◌-◌, ◌<◌, ◌^◌, ◌∙◌, ◌∷◌, ◌≡◌, ◌≢◌, ◌≤◌, ◌⊎◌}
+use Rattle.cdf_leaves.proofs.Common.{Touched, Way, from_reached, leaf_rest, name_room, rest_among, rest_has, rest_last, rest_once, seven_at_least, touched, AddsLeaf, AreTiles, Begins, Bool, Chained, ChainMade, Changed, Comes, Counts, Distinct, Each, Each-append, Each-map, Edit, EndsIn, Entry, EntryIs, EntryPut, Field, FieldSet, Good, Grew, HasEnd, HasNodes, In, IndexTouch, Inserted, IsAmong, IsWay, Kept, Kind, Leaf, List, MayName, MayPut, Names, NodeFits, NodeMade, NodeTaken, NodeWritten, Nodes, Owed, Placed, PutAlong, SaysEntry, SaysNode, SaysUnused, SplitMade, StandsAmong, Step, StepSays, StepStands, StillSays, TailGoesOn, TailSet, Touch, UnusedEntries, VariableShape, WayStands, Widened, WidenedAlong, [], ap, apart, arith, begins_by, bytes_eq, cases_eq, cases_lt, changed_again, changed_then, changed_wider, comes, each, each_in, entries_beside, entry, entry_past, false, field_set, fits, gdr_type, grew, grew_none, grew_then, has, in_nodes_with_leaf, index_at, inl, inr, is_in-true, is_linkable, kept_then, last_node, le-leb, leaf, leaf_acts, leaves_of, leb, length, length-le_from_distinct, length-map, length_tiles, link_to, linkable-from, linkable_kept, long, lt-leb, made, map, max, nat_tests, new_room, nil_from_length, no_entry, no_node, no_zero, node, node_head, node_stays, nodes_kept, nodes_of, nothing_changed, number, number_kept, placed, places_of, record_number_limit, redo, redone, refl, room_at, rules, same_node, shape, size_at, size_kept, sound, stands, step_pair, subst, suc, sym, tile_lies, top_chain, touch, true, type_at, type_of_body, uir_type, unlike, IsBlockType, used_count, vdr_vxr_head, vdr_vxr_tail, vvr_type, vxr_n_used_entries, vxr_type, vxr_vxr_next, was_unused, way, widen_all, widest, with_block, with_field, with_leaf, zero, ℕ, ◌*◌, ◌++◌, ◌+◌, ◌-◌, ◌<◌, ◌^◌, ◌∙◌, ◌∷◌, ◌≡◌, ◌≢◌, ◌≤◌, ◌⊎◌}
 use Rattle.cdf_edits.proofs.Edits.Composing.{head_type}
 use Rattle.cdf_format.proofs.NameRules.{bytes_eq-same}
 use Rattle.cdf_format.proofs.Tests.{same_of_bytes_eq}
@@ -15,6 +15,8 @@ use Rattle.cdf_leaves.proofs.Own.{node_fits, node_spares, node_type, now_blocks,
 use Rattle.cdf_leaves.proofs.PutSteps.{inside_before, may_still}
 use Rattle.cdf_leaves.proofs.Spares.{Spares, fits_still, node_inside, spares_kept, spares_linked, spares_then}
 use Rattle.cdf_leaves.proofs.SpotNode.{AtSpot, at_spot, first_stays}
+use Rattle.cdf_format.specs.RecordTypes.{cvvr_type}
+use Rattle.std.specs.Prelude.{◌==◌}
 use Rattle.std.proofs.lemmas.Bool.{false_from_ne_true}
 
 -- ---- what counts as unused before
@@ -76,8 +78,8 @@ fed_node {b = b} {roomy = roomy} {now = now} {was = was} {m = m} n size room use
 
 -- ---- the leaf may be named
 
-names_leaf : (now records : List ℕ) (l : Leaf) → type_at now l.place ≡ vvr_type → l.packed ≡ false → MayName now records l
-names_leaf now records l t p = record { no_node = grind (arith, nat_tests, t); packed_is = grind (arith, nat_tests, t, p) }
+names_leaf : (now records : List ℕ) (l : Leaf) → IsBlockType (type_at now l.place) → (type_at now l.place == cvvr_type) ≡ l.packed → MayName now records l
+names_leaf now records l is p = record { no_node = elim is [ inl e ↦ grind (arith, nat_tests, e) | inr e ↦ grind (arith, nat_tests, e) ]; packed_is = p }
 
 -- ---- the image
 
@@ -115,9 +117,9 @@ pub record Fitting (records every : List ℕ) (tree : Nodes) : Type 0 where
   pub among : (m : ℕ) → In m (nodes_of tree) → In m every
   pub blocks : (m : ℕ) → In m (places_of (leaves_of tree)) → In m records
 
-module _ {b : List ℕ} {kind : Kind} {before : List VariableShape} {own : VariableShape} {after : List VariableShape} (good : Good b) (stood : StandsAmong b kind before own after) {filled body : List ℕ} {place : ℕ} (block : Placed b filled body place) (type_is : type_of_body body ≡ vvr_type) (first last at : ℕ) where
+module _ {b : List ℕ} {kind : Kind} {before : List VariableShape} {own : VariableShape} {after : List VariableShape} (good : Good b) (stood : StandsAmong b kind before own after) {filled body : List ℕ} {place : ℕ} (block : Placed b filled body place) (type_is : IsBlockType (type_of_body body)) (first last at : ℕ) where
   abbrev l : Leaf
-  l = leaf first last place false
+  l = leaf first last place (type_of_body body == cvvr_type)
 
   abbrev new : ℕ
   new = new_room first own.index
@@ -181,8 +183,11 @@ module _ {b : List ℕ} {kind : Kind} {before : List VariableShape} {own : Varia
     block_there : In place records
     block_there = r.on.sub place (stands (sound good stood) block.fills)
 
-    block_is : type_at roomy place ≡ vvr_type
-    block_is = let typed = block.fills.typed ∙ type_is in head_type filled roomy place (r.on.head place (stands (sound good stood) block.fills) (λ u. apart vvr_type uir_type refl (sym typed ∙ u))) ∙ typed
+    block_is : type_at roomy place ≡ type_of_body body
+    block_is = let typed = block.fills.typed in head_type filled roomy place (r.on.head place (stands (sound good stood) block.fills) (λ u. elim type_is [ inl e ↦ apart vvr_type uir_type refl (sym (typed ∙ e) ∙ u) | inr e ↦ apart cvvr_type uir_type refl (sym (typed ∙ e) ∙ u) ])) ∙ typed
+
+    names_then : {now : List ℕ} → type_at now place ≡ type_at roomy place → MayName now records l
+    names_then {now = now} same = let is = same ∙ block_is in names_leaf now records l (subst IsBlockType (sym is) type_is) (ap (λ (n : ℕ). n == cvvr_type) is)
 
     fitting : Fitting records every after_leaf
     fitting = record {
@@ -261,7 +266,7 @@ module _ {b : List ℕ} {kind : Kind} {before : List VariableShape} {own : Varia
       let head : FieldSet roomy (with_field roomy v vdr_vxr_head at) v vdr_vxr_head at = field_set (omega arith) refl in
       let tail : FieldSet (with_field roomy v vdr_vxr_head at) now v vdr_vxr_tail at = field_set (omega (arith, head.as_long)) linked in
       let says : SaysNode roomy (records r) at 7 (with_block l no_entry) no_node = record { linkable = (r.fresh (omega arith)).linkable; next_is = w.next_is; room_is = w.room_is; used_is = w.used_is; say_entries = (w.says 0 (omega arith), tt) } in
-      let names = names_leaf roomy (records r) l (block_is r) refl in
+      let names = names_then r refl in
       leaf_added (begin r 0 (rw one (says, (names.no_node, names.packed_is, tt), tt))) (changed_again (changed_wider 28 16 head.changed (omega arith) (omega arith)) head.as_long (changed_wider 28 16 tail.changed (omega arith) (omega arith))) (tail.as_long ∙ head.as_long)
       (tail.past (v + 28) 8 (inl (omega arith)) ∙ head.reads small ∙ sym (ap link_to one)) (rw (one, empty) (tail.reads small))
 
@@ -318,7 +323,7 @@ module _ {b : List ℕ} {kind : Kind} {before : List VariableShape} {own : Varia
           → (Touched roomy grown (records r) x → MayName grown (records r) l → (0 < new → Kept roomy grown at × (is_linkable grown (records r) vxr_type at ≡ true)) → Owed roomy grown (records r) (records r) x (placed l at x)) → (Touched roomy grown (records r) x → NodeNow b grown nodes (spare x) x) → Now grown x put_tree
       node_put {grown = grown} from n later fit changed as_long owed here =
           node_step (begin r x (now_has good stood (g r)).indexed.has_nodes) (record { once = (has good stood).indexed.once; among = node_stays l at own.index; blocks = now_blocks good stood (g r) }) x from n x_in later fit (omega (arith, seen.fits.0)) changed as_long
-          (λ t. owed t (names_leaf grown (records r) l (t.heads.types place (block_there r) ∙ block_is r) refl) (λ s. let f = r.fresh s in (t.others at f.stands (λ e. f.outside (rw e x_in)), linkable_kept roomy grown (records r) (records r) t.heads vxr_type at f.linkable))) here (λ ne. absurd (ne refl))
+          (λ t. owed t (names_then r (t.heads.types place (block_there r))) (λ s. let f = r.fresh s in (t.others at f.stands (λ e. f.outside (rw e x_in)), linkable_kept roomy grown (records r) (records r) t.heads vxr_type at f.linkable))) here (λ ne. absurd (ne refl))
 
     -- the node has room
     with_room : {grown : List ℕ} → found.end.used < found.end.room → at ≡ 0 → Inserted filled grown x found.end.used found.end.begun first last place → Now grown x put_tree

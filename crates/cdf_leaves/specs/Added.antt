@@ -1,12 +1,12 @@
 -- A leaf that is added: what is asked for, the way to its place, and what is done along it (own).
-use Rattle.std.specs.Prelude.{◌≡◌, ◌+◌, ◌<◌, ◌≤◌, ℕ, List, length, map}
-use Rattle.cdf_edits.proofs.Edits.VdrEdited.{StandsAmong}
+use Rattle.std.specs.Prelude.{◌≡◌, ◌⊎◌, ◌+◌, ◌<◌, ◌≤◌, ℕ, List, length, map}
+use Rattle.cdf_edits.specs.Edits.Standing.{StandsAmong}
 use Rattle.cdf_edits.specs.Commands.Room.{widest}
 use Rattle.cdf_edits.specs.Index.Grown.{new_entries}
 use Rattle.cdf_edits.specs.Space.Placing.{IsBody, type_of_body}
 use Rattle.cdf_format.specs.Fields.{eof, gdr_offset, number}
 use Rattle.cdf_format.specs.Index.{Nodes, nodes_of, used_count}
-use Rattle.cdf_format.specs.RecordTypes.{vvr_type}
+use Rattle.cdf_format.specs.RecordTypes.{cvvr_type, vvr_type}
 use Rattle.cdf_format.specs.Records.{past, vdr_vxr_head, vdr_vxr_tail, vxr_bytes}
 use Rattle.cdf_format.specs.Shape.{Each, VariableShape, shape, variables, vdrs}
 use Rattle.cdf_format.specs.Sound.{IsSound}
@@ -23,6 +23,10 @@ use Rattle.cdf_leaves.specs.Widening.{WidenedAlong}
 use Rattle.cdf_model.specs.Limits.{image_limit}
 use Rattle.cdf_model.specs.declared.kinds.Kind.{Kind}
 
+-- the type of a block, packed or not
+abbrev pub IsBlockType : ℕ → Type 0
+IsBlockType type = (type ≡ vvr_type) ⊎ (type ≡ cvvr_type)
+
 -- a variable of a good image may get a block with these bytes
 pub record MayAdd (b : List ℕ) (limit vdr : ℕ) (body : List ℕ) : Type 0 where
   pub good : Good b
@@ -32,7 +36,7 @@ pub record MayAdd (b : List ℕ) (limit vdr : ℕ) (body : List ℕ) : Type 0 wh
   pub seven : new_entries ≤ widest (index_at b (number b vdr vdr_vxr_head))
   pub vdr_in : In vdr (vdrs (variables (shape b)))
   pub is_body : IsBody body
-  pub block : type_of_body body ≡ vvr_type
+  pub block : IsBlockType (type_of_body body)
   pub room : length b + (8 + length body) + vxr_bytes (widest (index_at b (number b vdr vdr_vxr_head))) ≤ limit
   pub short : limit ≤ image_limit
 

@@ -1,15 +1,15 @@
 //! A leaf added to the index of a variable.
 
-ghost use Rattle.std.specs.Prelude.{◌≡◌, ◌≢◌, ◌+◌, ◌≤◌, ◌<◌, ℕ, List, length, max, IfOk, OnOk};
+ghost use Rattle.std.specs.Prelude.{◌≡◌, ◌≢◌, ◌⊎◌, ◌+◌, ◌≤◌, ◌<◌, ℕ, List, length, max, IfOk, OnOk};
 ghost use Rattle.std.specs.Vec.{vec_len};
 ghost use Rattle.cdf_area.specs.Calls.{Edits, Reads};
 ghost use Rattle.cdf_edits.specs.Commands.Room.{widest};
 ghost use Rattle.cdf_edits.specs.Index.Grown.{new_entries};
 ghost use Rattle.cdf_edits.specs.Space.Placing.{IsBody, type_of_body};
-ghost use Rattle.cdf_edits.proofs.Edits.VdrEdited.{StandsAmong};
+ghost use Rattle.cdf_edits.specs.Edits.Standing.{StandsAmong};
 ghost use Rattle.cdf_format.specs.Fields.{eof, gdr_offset, number};
 ghost use Rattle.cdf_format.specs.Records.{vdr_vxr_head, vxr_bytes};
-ghost use Rattle.cdf_format.specs.RecordTypes.{vvr_type};
+ghost use Rattle.cdf_format.specs.RecordTypes.{cvvr_type, vvr_type};
 ghost use Rattle.cdf_format.specs.Shape.{VariableShape, shape, variables, vdrs};
 ghost use Rattle.cdf_format.specs.Tiles.{In};
 ghost use Rattle.cdf_format.specs.WellFormed.{Good};
@@ -157,7 +157,7 @@ fn begin_index<A: Area>(
     Ok(())
 }
 
-/// Adds a leaf to the index of the variable whose descriptor stands at a place: its block, with these bytes behind its size, and its entry, with a node more where one is needed.
+/// Adds a leaf to the index of the variable whose descriptor stands at a place: its block, packed or not, with these bytes behind its size, and its entry, with a node more where one is needed.
 /// The search for the place of the entry begins where it may start, at 0 where the index has no node. After an error a part of this may have been done.
 #[tactic(auto, using(crate::proofs::AddCalls::may_add))]
 pub fn add_leaf<A: Area>(
@@ -173,7 +173,7 @@ pub fn add_leaf<A: Area>(
     requires vdr { In vdr (vdrs (variables (shape (A.image area.old)))) }
     requires start { IsStart (A.image area.old) (number (A.image area.old) vdr vdr_vxr_head) first start }
     requires body { IsBody body.now }
-    requires block { type_of_body body.now ≡ vvr_type }
+    requires block { (type_of_body body.now ≡ vvr_type) ⊎ (type_of_body body.now ≡ cvvr_type) }
     requires room { length (A.image area.old) + (8 + length body.now) + vxr_bytes (widest (index_at (A.image area.old) (number (A.image area.old) vdr vdr_vxr_head))) ≤ (A.frame area.old).limit }
     requires limit { (A.frame area.old).limit ≤ image_limit }
     ensures added { OnOk result ((kind : Kind) (before : List VariableShape) (own : VariableShape) (after : List VariableShape) → StandsAmong (A.image area.old) kind before own after → own.vdr ≡ vdr → AddsLeaf (A.image area.old) (A.image area.new) own first last body.now) }

@@ -1,11 +1,12 @@
 -- A leaf that is added, as one edit: its block is taken and written, then a node where one is needed, and then the entries are. It leads from one good image to another.
-use Rattle.cdf_puts.proofs.Common.{same_node, acts_still_by, is_block, nodes_rows, used_rows, leaf_rows, index_rows, end_of, NodeTouch, Away, rules, Act, Avoids-append, Away-append, BlocksGoOn, Counts, Each, Each-map, Edit, Entries, Exchanged, FileSame, GoesOn, Good, Hold, Hold-split, In, In-append, In-append_left, In-append_right, IndexTests, IndexTouch, IsBlockBody, IsChain, IsOneOf, IsSound, IsVacant, Kept, Kind, Leaf, LeafAdded, List, Mark, Marked, Misses, NewIndex, NodeStands, NodeTaken, Nodes, Only, R, Same, Same-part, Shape, StandsAmong, Touch, VariableShape, Within-append, Z, [], all_unmarked-away, ap, apart, append-nil, arith, avoided, away-avoids, away-within, before_limit, behind_in, block, block_behind, chain_stays, changed_edit, count_is, drop, drop-drop, drop-take, each, each_of, edit_then, eof, false, field, file_same, firsts_of, flat_map, gdr_eof, gdr_field, gdr_in, gdr_type, gdr_typed, gdr_uir_head, good_is_sound, has, head_size, head_type, if◌then◌else◌, image_limit, in_nodes_with_leaf, index_marks, index_rules, order_with_leaf, index_unmarked, inl, inr, is_in-false, is_taken_at, keeps_away, keeps_fields, keeps_file, keeps_within, kept, kept_away, leaf_acts, leaves_of, length, linkable-in, linkable-type, long, lower, lower_nodes, max, max_rec_kept, negsuc, new_room, no_entry, no_node, node, node_acts, node_behind, node_room, node_stays, nodes_of, nodes_with_leaf, number, number_before, of_le, own_rules, piece_kept, place_in, placed_grows, pos, r_max_rec, r_max_rec_field, record_alike, record_bytes, record_number_limit, refl, room_at, same-then, shape, size_at, size_kept, some_bytes, space_fields, subst, suc, sym, take, take-take, the_one, tile, tile_lies, times, times-append, true, type_at, type_in, type_kept, type_of_body, typed, uir_type, unmarked-away, variable_types, variables_chain, vdr_alike, vdr_max_rec, vdr_of_variable, vvr_type, vxr_bytes, vxr_type, with_leaf, with_sign, word, zero, ℕ, ℤ, ◌*◌, ◌++◌, ◌+◌, ◌-◌, ◌<◌, ◌==◌, ◌∙◌, ◌∷◌, ◌≡◌, ◌≢◌, ◌≤◌, taken_places, is_in-true, get_or-drop, get_or-take, places_of, leaves_more, nat_tests, Covered, ◌⊎◌, is_record_type, fixed_size, byte, node_fits, own_node, own_order, is_compressed}
+use Rattle.cdf_puts.proofs.Common.{AddsLeaf, Bool, leaf, same_node, acts_still_by, is_block, nodes_rows, used_rows, leaf_rows, index_rows, end_of, NodeTouch, Away, rules, Act, Avoids-append, Away-append, BlocksGoOn, Counts, Each, Each-map, Edit, Entries, Exchanged, FileSame, GoesOn, Good, Hold, Hold-split, In, In-append, In-append_left, In-append_right, IndexTests, IndexTouch, IsBlockBody, IsChain, IsOneOf, IsSound, IsVacant, Kept, Kind, Leaf, LeafAdded, List, Mark, Marked, Misses, NewIndex, NodeStands, NodeTaken, Nodes, Only, R, Same, Same-part, Shape, StandsAmong, Touch, VariableShape, Within-append, Z, [], all_unmarked-away, ap, apart, append-nil, arith, avoided, away-avoids, away-within, before_limit, behind_in, block, block_behind, chain_stays, changed_edit, count_is, drop, drop-drop, drop-take, each, each_of, edit_then, eof, false, field, file_same, firsts_of, flat_map, gdr_eof, gdr_field, gdr_in, gdr_type, gdr_typed, gdr_uir_head, good_is_sound, has, head_size, head_type, if◌then◌else◌, image_limit, in_nodes_with_leaf, index_marks, index_rules, order_with_leaf, index_unmarked, inl, inr, is_in-false, is_taken_at, keeps_away, keeps_fields, keeps_file, keeps_within, kept, kept_away, leaf_acts, leaves_of, length, linkable-in, linkable-type, long, lower, lower_nodes, max, max_rec_kept, negsuc, new_room, no_entry, no_node, node, node_acts, node_behind, node_room, node_stays, nodes_of, nodes_with_leaf, number, number_before, of_le, own_rules, piece_kept, place_in, placed_grows, pos, r_max_rec, r_max_rec_field, record_alike, record_bytes, record_number_limit, refl, room_at, same-then, shape, size_at, size_kept, some_bytes, space_fields, subst, suc, sym, take, take-take, the_one, tile, tile_lies, times, times-append, true, type_at, type_in, type_kept, type_of_body, typed, uir_type, unmarked-away, variable_types, variables_chain, vdr_alike, vdr_max_rec, vdr_of_variable, vvr_type, vxr_bytes, vxr_type, with_leaf, with_sign, word, zero, ℕ, ℤ, ◌*◌, ◌++◌, ◌+◌, ◌-◌, ◌<◌, ◌==◌, ◌∙◌, ◌∷◌, ◌≡◌, ◌≢◌, ◌≤◌, taken_places, is_in-true, get_or-drop, get_or-take, places_of, leaves_more, nat_tests, Covered, ◌⊎◌, is_record_type, fixed_size, byte, node_fits, own_node, own_order, is_compressed}
 use Rattle.cdf_edits.proofs.Edits.MadeRecord.{place_in as placed_in, filled_size}
 use Rattle.cdf_edits.proofs.Edits.TakenAll.{TakenAll, none_taken, taken_then, taking_all, listed_free, unlisted_away}
 use Rattle.cdf_puts.proofs.LeafCounts.{room_stays, one_of_leaves, places_new}
 use Rattle.cdf_puts.proofs.RaisedGoes.{behind_no_vdr}
 use Rattle.cdf_edits.proofs.Edits.Composing.{part as changed_missed}
 use Rattle.cdf_format.proofs.Pieces.{word_of_piece_lem}
+use Rattle.cdf_format.specs.RecordTypes.{cvvr_type}
 use Rattle.cdf_puts.proofs.PutNodes.{NodesStep}
 use Rattle.cdf_index.proofs.NewIndex.{good_now as changed_good, block_kept, index_edit, own_edit}
 use Rattle.cdf_puts.proofs.GoesThen.{goes_by, links}
@@ -50,6 +51,11 @@ new_times room at m = grind arith
 
 pub plain_body : (body records : List ℕ) → IsBlockBody body records → type_of_body body ≡ vvr_type
 plain_body body records says = sym (word_of_piece_lem body 0 4) ∙ ap (λ (xs : List ℕ). word xs 0 4) says.type_is
+
+-- the leaf of such a block
+pub plain_leaf : {b now : List ℕ} {own : VariableShape} {first last : ℕ} {body records : List ℕ} (adds : AddsLeaf b now own first last body) → IsBlockBody body records → LeafAdded b now own (leaf first last adds.place false) body adds.at
+plain_leaf {b = b} {now = now} {own = own} {first = first} {last = last} {body = body} {records = records} adds says =
+    subst (λ (packed : Bool). LeafAdded b now own (leaf first last adds.place packed) body adds.at) (ap (λ (type : ℕ). type == cvvr_type) (plain_body body records says)) adds.added
 
 pub body_long : (body records : List ℕ) → IsBlockBody body records → 8 + length body ≡ max 28 (12 + length records)
 body_long body records says = let e = says.as_long in omega arith
@@ -182,7 +188,7 @@ module _ {b now : List ℕ} {kind : Kind} {before : List VariableShape} {own : V
   head_kept m i used = let h = entries_written.head m i used (λ r. r) in (head_type w.roomy now m h, head_size w.roomy now m h)
 
   -- and so is what was taken
-  taken_used : (m : ℕ) → In m reborn → In m records' × (type_at w.roomy m ≢ uir_type)
+  pub taken_used : (m : ℕ) → In m reborn → In m records' × (type_at w.roomy m ≢ uir_type)
   taken_used m (inl q) =
       let used = λ (u : type_at w.filled new.place ≡ uir_type). w.block.fills.in_use (sym w.block.fills.typed ∙ u) in
       let h = node_taking.grows.edit.head new.place filled_in used (λ i. used (node_taking.fresh_all new.place i filled_in)) in
@@ -239,12 +245,70 @@ module _ {b now : List ℕ} {kind : Kind} {before : List VariableShape} {own : V
       let rooms = λ (m : ℕ) (i : In m nodes). room_stays b now (shape b).records records' 8 8 new at m own.index (has good among).indexed.has_nodes w.index.has_nodes i in
       search (rules, node_stays new at own.index, node_apart, come, sizes, rooms, spare_stays, w.unused)
 
+  -- ---- its block
+
+  -- nothing of it is written once it is placed
+  pub block_stays : (type_of_body body ≡ vvr_type) ⊎ (type_of_body body ≡ cvvr_type) → Kept w.filled now new.place
+  block_stays is =
+      let written = edit_then node_taking.grows.edit entries_written in
+      let clear = leaf_tests kind own.vdr (shape w.filled).unused (new_nodes room at) all_nodes enough (length w.roomy) in
+      elim is [
+        | inl e ↦ kept written new.place vvr_type filled_in (w.block.fills.typed ∙ e) clear.blocks_clear
+        | inr e ↦ kept written new.place cvvr_type filled_in (w.block.fills.typed ∙ e) clear.packed_clear
+      ]
+
+  pub block_filled : size_at w.filled new.place ≡ 8 + length body
+  block_filled = filled_size sound w.block.fills
+
+  pub filled_longer : length w.filled ≤ length now
+  filled_longer = omega (arith, node_taking.grows.edit.longer, w.as_long)
+
+  -- ---- its leaves have their rules
+
+  module _ (vacant : IsVacant own new.first new.last) (short : length now ≤ image_limit) (each_leaf : (l : Leaf) → IsOneOf (leaves_of (with_leaf new at own.index)) l → (is_block now records' l.place ≡ true) × Hold (leaf_rows now records' own.vdr l)) where
+    index_ruled : Hold (index_rows now records' own.vdr (with_leaf new at own.index))
+    index_ruled =
+        let rules = (own_rules good among).1 in
+        let counts = each (Counts b) nodes (counts_hold b (shape b).records (negsuc 0) (pos record_number_limit) own.index (Hold-split (nodes_rows b (shape b).records (negsuc 0) (pos record_number_limit) own.index) (flat_map (leaf_rows b (shape b).records own.vdr) (leaves_of own.index)) rules).0) in
+        index_rules now records' own.vdr (with_leaf new at own.index) (order_with_leaf new at own.index (own_order good among) vacant.ordered vacant.uncovered vacant.before_next) (node_room good among new_index w.fits (w.counts counts) short) each_leaf
+
+    -- ---- the owners
+
+    exchanged : Exchanged b now own (with_leaf new at own.index) reborn reborn []
+    exchanged =
+        let times_are : (m : ℕ) → times m (nodes_of (with_leaf new at own.index)) + times m (places_of (leaves_of (with_leaf new at own.index))) + 0 ≡ times m nodes + times m (places_of (leaves_of own.index)) + times m reborn =
+        λ m. omega (arith, nodes_with_leaf new at m own.index, new_times room at m, ap (λ (xs : List Leaf). times m (places_of xs)) (leaves_more new at 0 record_number_limit own.index (own_order good among)) ∙ places_new m new (leaves_of own.index), times-append m (new.place ∷ []) (new_nodes room at)) in
+        let in_use = λ (m : ℕ) (i : In m reborn) (u : type_at now m ≡ uir_type). (let x = taken_used m i in x.1 (sym (head_kept m x.0 x.1).0 ∙ u)) in
+        let back : (m : ℕ) → In m reborn ⊎ In m [] → In m reborn = λ m i. elim i [ inl j ↦ j | inr none ↦ absurd none ] in
+        let are : (m : ℕ) → In m reborn → In m reborn ⊎ In m [] = λ m i. inl i in
+        let were : (m : ℕ) → In m [] → In m nodes = λ m i. absurd i in
+        let out : (m : ℕ) → In m [] → type_at now m ≡ uir_type = λ m i. absurd i in
+        search (rules, times_are, are, back, were, out, taking.fresh_all, taking.once, in_use)
+
+    -- ---- the rules of the image
+
+    pub good_ruled : Good now
+    good_ruled = changed_good good among new_index reborn [] exchanged index_ruled end_now short
+
+    -- ---- how it goes on
+
+    pub goes_ruled : GoesOn b now kind before own (record own { index = with_leaf new at own.index }) after step
+    goes_ruled =
+        let follows = acts_still_by taking.grows.sound taking.follow entries_written (index_unmarked kind own.vdr all_nodes (field 12 (length w.roomy))) records_are (of_own.unused_are good among (own_edit good among new_index)) w.as_long in
+        goes_by good among (index_edit good among new_index) good_ruled follows (keeps_fields sound edit records_are (shape b).gdr gdr_type (r_max_rec_field kind ++ space_fields) (gdr_in b (shape b) sound.has_shape) (gdr_typed b (shape b) sound.has_shape) tests.heads_clear tests.inside)
+        (λ m i free.
+        let ok = sound.has_shape.unused_chain.linkable m i in
+        let inside = linkable-in b (shape b).records uir_type m ok in
+        let marked = listed_free taking m i (tile_lies b 8 (length b) (shape b).records m sound.has_shape.tiled inside).long free in
+        keeps_within sound edit records_are m uir_type links inside (linkable-type b (shape b).records uir_type m ok) (Avoids-append space entries uir_type m 0 12 marked.0 (away-avoids entries uir_type m 0 12 (unused_away m)))
+        (Within-append space entries uir_type m links marked.1 (away-within entries uir_type m links (unused_away m))))
+        (λ m i typed out. keeps_away sound edit records_are m uir_type (Only []) i typed (Away-append space entries uir_type m (unlisted_away taking m i out) (unused_away m)))
+
   -- ---- its records
 
   module _ {records : List ℕ} (says : IsBlockBody body records) where
-    -- nothing of the block is written once it is placed
     k : Kept w.filled now new.place
-    k = kept (edit_then node_taking.grows.edit entries_written) new.place vvr_type filled_in (w.block.fills.typed ∙ plain_body body records says) (leaf_tests kind own.vdr (shape w.filled).unused (new_nodes room at) all_nodes enough (length w.roomy)).blocks_clear
+    k = block_stays (inl (plain_body body records says))
 
     block_size : size_at now new.place ≡ 8 + length body
     block_size = size_kept w.filled now new.place k.same (let l = k.long in omega arith) ∙ filled_size sound w.block.fills
@@ -287,40 +351,8 @@ module _ {b now : List ℕ} {kind : Kind} {before : List VariableShape} {own : V
             block_rows l (edit.sub l.place (behind_in good among l.place (block_behind own l.place at))) (type_kept b now l.place k.same k.long ∙ x.typed) x.ordered x.small (rw (size_kept b now l.place k.same (omega (arith, k.long))) x.room)
       ]
 
-      index_ruled : Hold (index_rows now records' own.vdr (with_leaf new at own.index))
-      index_ruled =
-          let rules = (own_rules good among).1 in
-          let counts = each (Counts b) nodes (counts_hold b (shape b).records (negsuc 0) (pos record_number_limit) own.index (Hold-split (nodes_rows b (shape b).records (negsuc 0) (pos record_number_limit) own.index) (flat_map (leaf_rows b (shape b).records own.vdr) (leaves_of own.index)) rules).0) in
-          index_rules now records' own.vdr (with_leaf new at own.index) (order_with_leaf new at own.index (own_order good among) vacant.ordered vacant.uncovered vacant.before_next) (node_room good among new_index w.fits (w.counts counts) short) each_leaf
-
-      -- ---- the owners
-
-      exchanged : Exchanged b now own (with_leaf new at own.index) reborn reborn []
-      exchanged =
-          let times_are : (m : ℕ) → times m (nodes_of (with_leaf new at own.index)) + times m (places_of (leaves_of (with_leaf new at own.index))) + 0 ≡ times m nodes + times m (places_of (leaves_of own.index)) + times m reborn =
-          λ m. omega (arith, nodes_with_leaf new at m own.index, new_times room at m, ap (λ (xs : List Leaf). times m (places_of xs)) (leaves_more new at 0 record_number_limit own.index (own_order good among)) ∙ places_new m new (leaves_of own.index), times-append m (new.place ∷ []) (new_nodes room at)) in
-          let in_use = λ (m : ℕ) (i : In m reborn) (u : type_at now m ≡ uir_type). (let x = taken_used m i in x.1 (sym (head_kept m x.0 x.1).0 ∙ u)) in
-          let back : (m : ℕ) → In m reborn ⊎ In m [] → In m reborn = λ m i. elim i [ inl j ↦ j | inr none ↦ absurd none ] in
-          let are : (m : ℕ) → In m reborn → In m reborn ⊎ In m [] = λ m i. inl i in
-          let were : (m : ℕ) → In m [] → In m nodes = λ m i. absurd i in
-          let out : (m : ℕ) → In m [] → type_at now m ≡ uir_type = λ m i. absurd i in
-          search (rules, times_are, are, back, were, out, taking.fresh_all, taking.once, in_use)
-
-      -- ---- the rules of the image
-
       pub good_now : Good now
-      good_now = changed_good good among new_index reborn [] exchanged index_ruled end_now short
-
-      -- ---- how it goes on
+      good_now = good_ruled vacant short each_leaf
 
       pub leaf_goes_on : GoesOn b now kind before own (record own { index = with_leaf new at own.index }) after step
-      leaf_goes_on =
-          let follows = acts_still_by taking.grows.sound taking.follow entries_written (index_unmarked kind own.vdr all_nodes (field 12 (length w.roomy))) records_are (of_own.unused_are good among (own_edit good among new_index)) w.as_long in
-          goes_by good among (index_edit good among new_index) good_now follows (keeps_fields sound edit records_are (shape b).gdr gdr_type (r_max_rec_field kind ++ space_fields) (gdr_in b (shape b) sound.has_shape) (gdr_typed b (shape b) sound.has_shape) tests.heads_clear tests.inside)
-          (λ m i free.
-          let ok = sound.has_shape.unused_chain.linkable m i in
-          let inside = linkable-in b (shape b).records uir_type m ok in
-          let marked = listed_free taking m i (tile_lies b 8 (length b) (shape b).records m sound.has_shape.tiled inside).long free in
-          keeps_within sound edit records_are m uir_type links inside (linkable-type b (shape b).records uir_type m ok) (Avoids-append space entries uir_type m 0 12 marked.0 (away-avoids entries uir_type m 0 12 (unused_away m)))
-          (Within-append space entries uir_type m links marked.1 (away-within entries uir_type m links (unused_away m))))
-          (λ m i typed out. keeps_away sound edit records_are m uir_type (Only []) i typed (Away-append space entries uir_type m (unlisted_away taking m i out) (unused_away m)))
+      leaf_goes_on = goes_ruled vacant short each_leaf

@@ -19,7 +19,7 @@ use Rattle.cdf_index.specs.Sight.{seen}
 use Rattle.cdf_index.specs.declared.nodes.Leaf.{Leaf as FoundLeaf}
 use Rattle.cdf_model.specs.Limits.{record_number_limit}
 use Rattle.cdf_puts.proofs.LeafCounts.{new_room_widest}
-use Rattle.cdf_puts.proofs.LeafEdit.{body_long}
+use Rattle.cdf_puts.proofs.LeafEdit.{body_long, plain_leaf}
 use Rattle.cdf_puts.specs.Going.{GoesOn}
 use Rattle.cdf_puts.specs.Steps.{IsBlockBody}
 use Rattle.cdf_cuts.proofs.BlocksMoved.{times_add}
@@ -123,7 +123,7 @@ module _ {b : List ℕ} (good : Good b) {kind : Kind} {before : List VariableSha
             record {
               own' = with_index own (with_leaf (record { first = last + 1; last = leaf.last; place = a.place; packed = false }) a.at (index_opened own first last));
               takes = leaf_acts a.place (8 + length body) (new_room (last + 1) (index_opened own first last)) a.at;
-              opened = opened_one good among order short c loose one (record { begins = begins; ends = ends }) says_own a.added short_now;
+              opened = opened_one good among order short c loose one (record { begins = begins; ends = ends }) says_own (plain_leaf a says_own) short_now;
             }
 
     -- the records of the block that was found, or nothing, where no leaf is divided

@@ -1,4 +1,4 @@
-use Rattle.cdf_leaves.proofs.Common.{Frame, edit_done, edit_failed, edit_more, edit_once, ap, arith, eqb-true, inl, inr, length, nil_from_length, rules, sym, ◌∙◌}
+use Rattle.cdf_leaves.proofs.Common.{Frame, refl, edit_done, edit_failed, edit_more, edit_once, ap, arith, eqb-true, inl, inr, length, nil_from_length, rules, sym, ◌∙◌}
 use Rattle.cdf_leaves.proofs.AddCalls.{end_ready, end_there, put_added, room_ready, stands_ready, still_ends, tail_added, vdr_still}
 use Rattle.cdf_leaves.proofs.adding.hang_leaf.Goals.{then-at-eq0-via-then-at-eq0, then-at-eq0-via-else-at-eq0+then-not-is_empty}
 use Rattle.cdf_leaves.proofs.adding.hang_leaf.Goals as goal
@@ -41,3 +41,6 @@ returns-in_err-set_tail-clause-area g c = edit_failed (edit_more (edit_once c.in
 
 pub returns-clause-area : goal.returns-clause-area
 returns-clause-area g c = edit_done (edit_more (edit_more (edit_once c.in_ok-place.ensures.area) c.in_ok-at.ensures.area) c.in_ok-set_tail.ensures.area)
+
+pub returns-in_err-place-clause-area : goal.returns-in_err-place-clause-area
+returns-in_err-place-clause-area g c = edit_failed (record { frame = refl; faults = refl }) c.in_err-place.ensures.area c.from_residual.ensures.1

@@ -1,4 +1,5 @@
-use Rattle.cdf_puts.proofs.Common.{Frame, ap, edit_done, edit_failed, edit_more, edit_without_memory, edits_by_read, keeps_by_read, read_once, refl}
+use Rattle.cdf_puts.proofs.Common.{Frame, ap, edit_done, edit_failed, edit_more, edit_without_memory, edits_by_read, inl, keeps_by_read, read_once, refl}
+use Rattle.cdf_puts.proofs.LeafEdit.{plain_body}
 use Rattle.cdf_puts.proofs.PutSpot.{added_on, room_after, some_few, vdr_in}
 use Rattle.cdf_puts.proofs.putting.add_block.Goals as goal
 
@@ -22,6 +23,9 @@ add_leaf-requires-clause-good g c = rw (c.last_of_new.ensures.area.image) c.requ
 
 pub add_leaf-requires-clause-vdr : goal.add_leaf-requires-clause-vdr
 add_leaf-requires-clause-vdr g c = rw (c.last_of_new.ensures.area.image) (vdr_in c.requires.some.putting c.requires.some.is)
+
+pub add_leaf-requires-clause-block : goal.add_leaf-requires-clause-block
+add_leaf-requires-clause-block g c = inl (plain_body _ _ (rw (← c.deref.ensures.value) at c.in_ok-body.ensures.body))
 
 pub add_leaf-requires-clause-room : goal.add_leaf-requires-clause-room
 add_leaf-requires-clause-room g c =

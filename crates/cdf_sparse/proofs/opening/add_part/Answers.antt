@@ -1,4 +1,4 @@
-use Rattle.cdf_cuts.proofs.Common.{arith, subst, sym, ◌∙◌}
+use Rattle.cdf_cuts.proofs.Common.{arith, inl, subst, sym, ◌∙◌}
 use Rattle.cdf_edits.proofs.Common.{Good}
 use Rattle.cdf_index.proofs.OneVariable.{one_of}
 use Rattle.cdf_cuts.proofs.CutCalls as by
@@ -17,6 +17,9 @@ start_of-requires-clause-index g c =
 
 pub add_leaf-requires-clause-good : goal.add_leaf-requires-clause-good
 add_leaf-requires-clause-good g c = subst Good (sym (c.in_ok-start.ensures.area.image ∙ c.in_ok-head.ensures.area.image)) c.requires.good
+
+pub add_leaf-requires-clause-block : goal.add_leaf-requires-clause-block
+add_leaf-requires-clause-block g c = inl c.requires.block
 
 pub returns-clause-added : goal.returns-clause-added
 returns-clause-added g c = let same = c.in_ok-start.ensures.area.image ∙ c.in_ok-head.ensures.area.image in rw same at c.add_leaf.ensures.added
