@@ -35,6 +35,7 @@ pub mod DeletedFollows
 pub mod LaterFound
 pub mod CloseCalls
 pub mod ClosingRoom
+pub mod SmallLeaves
 pub mod RoomRead
 pub mod PastKept
 pub mod PastCut

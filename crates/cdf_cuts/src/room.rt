@@ -1,13 +1,13 @@
 //! How many bytes a command may take by which records go and later ones close up.
 
-ghost use Rattle.std.specs.Prelude.{◌≡◌, ◌+◌, ◌-◌, ◌*◌, ◌≤◌, List, length, IfOk, false};
+ghost use Rattle.std.specs.Prelude.{◌≡◌, ◌+◌, ◌-◌, ◌*◌, ◌≤◌, List, length, IfOk};
 ghost use Rattle.std.specs.Option.{option_map};
 ghost use Rattle.cdf_area.specs.Calls.{Reads};
 ghost use Rattle.cdf_cuts.specs.ClosingRoom.{IsSmall, back_room, front_room, part_room};
 ghost use Rattle.cdf_edits.specs.Edits.Standing.{StandsAmong};
 ghost use Rattle.cdf_edits.specs.Commands.Room.{cut_room};
 ghost use Rattle.cdf_format.specs.Content.{variable_of};
-ghost use Rattle.cdf_format.specs.Shape.{VariableShape, shape, variables, vdrs, is_compressed};
+ghost use Rattle.cdf_format.specs.Shape.{VariableShape, shape, variables, vdrs};
 ghost use Rattle.cdf_format.specs.Tiles.{In};
 ghost use Rattle.cdf_format.specs.VariableFields.{record_bytes};
 ghost use Rattle.cdf_format.specs.WellFormed.{Good};
@@ -81,7 +81,6 @@ pub fn read_closing_room<A: Area>(
 ) -> Result<u64, AreaError>
     requires good { Good (A.image area.old) }
     requires vdr { In vdr (vdrs (variables (shape (A.image area.old)))) }
-    requires unpacked { is_compressed (A.image area.old) vdr ≡ false }
     requires size { rec_bytes ≡ record_bytes (A.image area.old) vdr }
     requires order { first ≤ last }
     requires short { length (A.image area.old) ≤ image_limit }

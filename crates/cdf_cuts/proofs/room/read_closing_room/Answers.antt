@@ -31,13 +31,13 @@ pub room_in_front-requires : goal.room_in_front-requires
 room_in_front-requires g c =
     let one = one_of (g.A.Area.image c.args.area.now) c.args.vdr c.requires.vdr in
     let same = c.in_ok-size.ensures.area.image ∙ c.in_ok-head.ensures.area.image in
-    small c.requires.good one.among one.vdr_is same c.in_ok-head.ensures.value c.requires.size c.requires.unpacked c.requires.short c.args.first c.in_ok-front.front c.in_ok-front.ensures.value
+    small c.requires.good one.among one.vdr_is same c.in_ok-head.ensures.value c.requires.size c.requires.short c.args.first c.in_ok-front.front c.in_ok-front.ensures.value
 
 pub room_behind-requires : goal.room_behind-requires
 room_behind-requires g c =
     let one = one_of (g.A.Area.image c.args.area.now) c.args.vdr c.requires.vdr in
     let same = c.in_ok-front.ensures.area.image ∙ c.in_ok-size.ensures.area.image ∙ c.in_ok-head.ensures.area.image in
-    small c.requires.good one.among one.vdr_is same c.in_ok-head.ensures.value c.requires.size c.requires.unpacked c.requires.short c.args.last c.in_ok-back.back c.in_ok-back.ensures.value
+    small c.requires.good one.among one.vdr_is same c.in_ok-head.ensures.value c.requires.size c.requires.short c.args.last c.in_ok-back.back c.in_ok-back.ensures.value
 
 pub returns-clause-room : goal.returns-clause-room
 returns-clause-room g c kind before own after among is free =

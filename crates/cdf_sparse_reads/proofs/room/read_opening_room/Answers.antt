@@ -39,19 +39,19 @@ pub room_of-requires-clause-small : goal.room_of-requires-clause-small
 room_of-requires-clause-small g c =
     let one = one_of (g.A.Area.image c.args.area.now) c.args.vdr c.requires.vdr in
     let same = c.in_ok-size.ensures.area.image ∙ c.in_ok-head.ensures.area.image in
-    small c.requires.good one.among one.vdr_is same c.in_ok-head.ensures.value c.requires.size c.requires.unpacked c.requires.short c.args.first c.in_ok-front.front c.in_ok-front.ensures.value
+    small c.requires.good one.among one.vdr_is same c.in_ok-head.ensures.value c.requires.size c.requires.short c.args.first c.in_ok-front.front c.in_ok-front.ensures.value
 
 pub room_of-requires-2-clause-small : goal.room_of-requires-2-clause-small
 room_of-requires-2-clause-small g c =
     let one = one_of (g.A.Area.image c.args.area.now) c.args.vdr c.requires.vdr in
     let same = c.in_ok-front.ensures.area.image ∙ c.in_ok-size.ensures.area.image ∙ c.in_ok-head.ensures.area.image in
-    c.unless_has-back.ensures.small c.args.rec_bytes (small c.requires.good one.among one.vdr_is same c.in_ok-head.ensures.value c.requires.size c.requires.unpacked c.requires.short c.args.last c.in_ok-back.back c.in_ok-back.ensures.value)
+    c.unless_has-back.ensures.small c.args.rec_bytes (small c.requires.good one.among one.vdr_is same c.in_ok-head.ensures.value c.requires.size c.requires.short c.args.last c.in_ok-back.back c.in_ok-back.ensures.value)
 
 pub room_of-requires-3-clause-small : goal.room_of-requires-3-clause-small
 room_of-requires-3-clause-small g c =
     let one = one_of (g.A.Area.image c.args.area.now) c.args.vdr c.requires.vdr in
     let same = c.in_ok-back.ensures.area.image ∙ c.in_ok-front.ensures.area.image ∙ c.in_ok-size.ensures.area.image ∙ c.in_ok-head.ensures.area.image in
-    let found = small c.requires.good one.among one.vdr_is same c.in_ok-head.ensures.value c.requires.size c.requires.unpacked c.requires.short c.args.end c.in_ok-past.past c.in_ok-past.ensures.value in
+    let found = small c.requires.good one.among one.vdr_is same c.in_ok-head.ensures.value c.requires.size c.requires.short c.args.end c.in_ok-past.past c.in_ok-past.ensures.value in
     c.unless_has-past.ensures.small c.args.rec_bytes (c.unless_has.ensures.small c.args.rec_bytes found)
 
 pub returns-clause-room : goal.returns-clause-room

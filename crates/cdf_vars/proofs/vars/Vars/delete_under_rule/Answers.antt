@@ -18,9 +18,6 @@ read_opening_room-requires-clause-vdr g c = rw (c.read_extent_after.ensures.area
 pub read_opening_room-requires-clause-good : goal.read_opening_room-requires-clause-good
 read_opening_room-requires-clause-good g c = rw (c.read_extent_after.ensures.area.image) c.requires.good
 
-pub read_opening_room-requires-clause-unpacked : goal.read_opening_room-requires-clause-unpacked
-read_opening_room-requires-clause-unpacked g c = rw (c.read_extent_after.ensures.area.image) c.requires.unpacked
-
 -- how many records are left, what is needed, and the room that there is
 end_own : (g : Over) (c : In_ok-end g) → c.in_ok-end.end ≡ extent_after (variable_of (g.A.Area.image c.args.area.now) c.requires.target.own) c.args.first c.args.last
 end_own g c = let is = c.requires.target in c.in_ok-end.ensures.left c.args.target.now.id.kind is.before is.own is.after is.among is.vdr_is (ap (λ (x : Variable). is_sparse x.sparse) (sym is.variable_is) ∙ c.requires.rule)
