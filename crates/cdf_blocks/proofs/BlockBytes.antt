@@ -6,7 +6,11 @@ use Rattle.cdf_edits.specs.Index.Written.{WellPacked, block_end, is_worth_packin
 use Rattle.cdf_format.specs.Index.{Leaf}
 use Rattle.cdf_format.specs.IndexRules.{leaf_rows}
 use Rattle.cdf_format.specs.RecordTypes.{cvvr_type, vvr_type}
-use Rattle.cdf_format.specs.Records.{cvvr_c_size, vvr_records}
+use Rattle.cdf_edits.proofs.Common.{bytes_kept, number_kept}
+use Rattle.cdf_edits.proofs.Edits.Common.{Kept}
+use Rattle.cdf_format.specs.Fields.{counted}
+use Rattle.cdf_format.specs.Records.{cvvr_c_size, cvvr_packed, vvr_records}
+use Rattle.std.specs.Int.{cast_signed, w64}
 use Rattle.cdf_format.specs.Stored.{field_bytes}
 use Rattle.cdf_format.specs.Tiles.{In}
 use Rattle.cdf_model.specs.Limits.{image_limit}
@@ -85,3 +89,15 @@ module _ (now records : List ℕ) (vdr : ℕ) (first last place : ℕ) (plain by
   pub end_is : (packed : Bool) → plain_size now vdr (leaf_of packed) ≡ length plain → BlockStands now records (leaf_of packed) bytes → StoredAs plain packed bytes → block_end now vdr (leaf_of packed) ≡ stored_end packed (length bytes)
   end_is true many s a = ap (λ (n : ℕ). 24 + n) s.holds.0
   end_is false many s a = ap (λ (n : ℕ). 12 + n) (many ∙ sym (ap length a.stores))
+
+-- ---- a block whose record stays
+
+counted_most : (n : ℕ) → counted (cast_signed w64 n) ≤ n
+counted_most n = grind arith
+
+pub holds_kept : (mid now : List ℕ) (place : ℕ) (bytes : List ℕ) (packed : Bool) → Kept mid now place → length mid ≤ length now → stored_end packed (length bytes) ≤ size_at mid place → Holds mid place bytes packed → Holds now place bytes packed
+holds_kept mid now place bytes true k longer fit h =
+    let c = number_kept mid now place k.same cvvr_c_size (omega (arith, fit)) in
+    let n = counted (cast_signed w64 (number mid place cvvr_c_size)) in
+    (c ∙ h.0, ap (λ (m : ℕ). field_bytes now place (cvvr_packed (counted (cast_signed w64 m)))) c ∙ bytes_kept mid now place k.same (cvvr_packed n) (omega (arith, counted_most (number mid place cvvr_c_size), h.0, fit)) k.inside longer ∙ h.1)
+holds_kept mid now place bytes false k longer fit h = bytes_kept mid now place k.same (vvr_records (length bytes)) (omega (arith, fit)) k.inside longer ∙ h

@@ -9,7 +9,7 @@ use Rattle.cdf_edits.proofs.Edits.PlainLeaves.{leaves_apart, leaves_ascend}
 use Rattle.cdf_edits.proofs.Edits.VariableCopied.{block_behind}
 use Rattle.cdf_index.proofs.OwnRecords.{block_type}
 use Rattle.cdf_index.proofs.PlainBlocks.{Named, leaves_named}
-use Rattle.cdf_blocks.specs.Blocks.{type_of_block}
+use Rattle.cdf_blocks.specs.Blocks.{LiesIn, type_of_block}
 
 typed_by : (t : ℕ) (packed : Bool) → ((t ≡ vvr_type) × ((t == cvvr_type) ≡ packed)) → t ≡ type_of_block packed
 typed_by t true (e, p) = absurd (clash t e p)
@@ -43,8 +43,9 @@ module _ {b : List ℕ} {kind : Kind} {before : List VariableShape} {own : Varia
   pub range_of : InOrder 0 (suc record_number_limit) l
   range_of = in_order 0 (suc record_number_limit) (leaves_of own.index) (leaves_ascend good at) l one
 
-  pub size_is : plain_size b own.vdr l ≡ (l.last + 1 - l.first) * record_bytes b own.vdr
-  size_is = rw (count_is l (omega (arith, range_of.before)) range_of.ordered) refl
+  -- some of its records have so many bytes
+  pub size_is : (new : Leaf) → LiesIn l new.first new.last → plain_size b own.vdr new ≡ (new.last + 1 - new.first) * record_bytes b own.vdr
+  size_is new lies = rw (count_is new (omega (arith, range_of.before, lies.ends)) lies.ordered) refl
 
   pub apart : (other : Leaf) → IsOneOf (leaves_of own.index) other → (other ≡ l → ⊥) → other.place ≢ l.place
   apart other i ne e = ne (one_place (leaves_of own.index) (leaves_apart good at) other l i one e)

@@ -4,6 +4,8 @@ pub mod PlacedNode
 pub mod BlockBytes
 pub mod BlockOf
 pub mod KeptRules
+pub mod EntryNamed
+pub mod BytesWritten
 pub mod InPlace
 pub mod BlockGoes
 pub mod InPlaceGoes
@@ -11,6 +13,8 @@ pub mod NewBlock
 pub mod MovedLinked
 pub mod MovedFreed
 pub mod MovedGoes
+pub mod WholeShortened
 pub mod PlainWritten
 pub mod PlacingCalls
 pub mod StoringCalls
+pub mod SpotLeaf

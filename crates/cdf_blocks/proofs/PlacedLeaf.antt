@@ -1,22 +1,23 @@
--- The block of a leaf has another place in an index: nodes, leaves and order, and that one entry of one node changes.
+-- A leaf has some of its records alone in an index, and maybe its block another place: nodes, leaves and order, and that one entry of one node changes.
 use Rattle.cdf_blocks.proofs.Common.{Ascending, Distinct, Distinct-back, Distinct-front, Each, Each-split, Edit, Entries, In, In-append, In-append_left, In-append_right, IsOneOf, Leaf, List, Nodes, [], ap, ap₂, arith, block, cases_eq, each_of, entry_count, eq-eqb, eqb, false, if◌then◌else◌, inl, inr, link_to, lower, map, map-append, nat_tests, ne_eqb, no_entry, no_node, node, past_entries, places_of, refl, subst, suc, sym, times, times-append, top_chain, true, with_block, zero, ℕ, ◌++◌, ◌+◌, ◌<◌, ◌==◌, ◌∙◌, ◌∷◌, ◌≡◌, ◌≢◌, ◌≤◌, ◌⊎◌}
-unfoldable use Rattle.cdf_blocks.proofs.Common.{AreInOrder, InOrder, entry_leaves, leaves_of, lower_nodes, nodes_of, redo, redo_below, with_place, with_place_in}
-use Rattle.cdf_blocks.proofs.Common.{entries_by, nodes_by, nodes_within}
+unfoldable use Rattle.cdf_blocks.proofs.Common.{AreInOrder, InOrder, entry_leaves, leaves_of, lower_nodes, nodes_of, redo, redo_below, with_place, with_place_in, with_range, with_range_in}
+use Rattle.cdf_blocks.proofs.Common.{entries_by, nodes_by}
+use Rattle.cdf_blocks.specs.Blocks.{LiesIn}
 
 -- ---- nodes
 
-pub nodes_stay : (new : Leaf) (ns : Nodes) → nodes_of (with_place new ns) ≡ nodes_of ns
-unfolding with_place with_place_in nodes_of lower_nodes
-nodes_stay new = nodes_by (λ es. lower_nodes (with_place_in new es) ≡ lower_nodes es) (grind (arith, nat_tests))
+pub nodes_stay : (start : ℕ) (new : Leaf) (ns : Nodes) → nodes_of (with_range start new ns) ≡ nodes_of ns
+unfolding with_range with_range_in nodes_of lower_nodes
+nodes_stay start new = nodes_by (λ es. lower_nodes (with_range_in start new es) ≡ lower_nodes es) (grind (arith, nat_tests))
 
-pub count_stays : (new : Leaf) (es : Entries) → entry_count (with_place_in new es) ≡ entry_count es
-unfolding with_place with_place_in
-count_stays new = entries_by (grind (arith, nat_tests))
+pub count_stays : (start : ℕ) (new : Leaf) (es : Entries) → entry_count (with_range_in start new es) ≡ entry_count es
+unfolding with_range with_range_in
+count_stays start new = entries_by (grind (arith, nat_tests))
 
-pub top_stays : (new : Leaf) (ns : Nodes) → top_chain (with_place new ns) ≡ top_chain ns
-unfolding with_place
-top_stays new no_node = refl
-top_stays new (node place room es more) = ap (λ (xs : List ℕ). place ∷ xs) (top_stays new more)
+pub top_stays : (start : ℕ) (new : Leaf) (ns : Nodes) → top_chain (with_range start new ns) ≡ top_chain ns
+unfolding with_range
+top_stays start new no_node = refl
+top_stays start new (node place room es more) = ap (λ (xs : List ℕ). place ∷ xs) (top_stays start new more)
 
 -- ---- how many leaves have a First
 
@@ -44,47 +45,101 @@ count_some (x ∷ xs) l i = grind (arith, nat_tests, i, count_some xs l)
 
 -- ---- leaves
 
-abbrev pub placed : Leaf → Leaf → Leaf
-placed new l = if l.first == new.first then new else l
+abbrev pub placed : ℕ → Leaf → Leaf → Leaf
+placed start new l = if l.first == start then new else l
 
-abbrev pub all_placed : Leaf → List Leaf → List Leaf
-all_placed new ls = map (placed new) ls
+abbrev pub all_placed : ℕ → Leaf → List Leaf → List Leaf
+all_placed start new ls = map (placed start new) ls
 
-both_placed : (new : Leaf) (xs ys : List Leaf) → all_placed new (xs ++ ys) ≡ all_placed new xs ++ all_placed new ys
-both_placed new xs ys = map-append (placed new) xs ys
+both_placed : (start : ℕ) (new : Leaf) (xs ys : List Leaf) → all_placed start new (xs ++ ys) ≡ all_placed start new xs ++ all_placed start new ys
+both_placed start new xs ys = map-append (placed start new) xs ys
 
-none_placed : (new : Leaf) (ls : List Leaf) → count new.first ls ≡ 0 → all_placed new ls ≡ ls
-none_placed new [] z = refl
-none_placed new (l ∷ ls) z = grind (arith, nat_tests, z, none_placed new ls)
+none_placed : (start : ℕ) (new : Leaf) (ls : List Leaf) → count start ls ≡ 0 → all_placed start new ls ≡ ls
+none_placed start new [] z = refl
+none_placed start new (l ∷ ls) z = grind (arith, nat_tests, z, none_placed start new ls)
 
-pub absent : (new : Leaf) (ns : Nodes) → count new.first (leaves_of ns) ≡ 0 → with_place new ns ≡ ns
-unfolding with_place with_place_in leaves_of entry_leaves
-absent new = nodes_by (λ es. count new.first (entry_leaves es) ≡ 0 → with_place_in new es ≡ es) (grind (arith, nat_tests, count_both))
+pub absent : (start : ℕ) (new : Leaf) (ns : Nodes) → count start (leaves_of ns) ≡ 0 → with_range start new ns ≡ ns
+unfolding with_range with_range_in leaves_of entry_leaves
+absent start new = nodes_by (λ es. count start (entry_leaves es) ≡ 0 → with_range_in start new es ≡ es) (grind (arith, nat_tests, count_both))
 
-pub leaves_placed : (new : Leaf) (ns : Nodes) → count new.first (leaves_of ns) ≤ 1 → leaves_of (with_place new ns) ≡ all_placed new (leaves_of ns)
-unfolding with_place with_place_in leaves_of entry_leaves
-leaves_placed new = nodes_by (λ es. count new.first (entry_leaves es) ≤ 1 → entry_leaves (with_place_in new es) ≡ all_placed new (entry_leaves es)) (grind (arith, nat_tests, count_both, both_placed, none_placed))
+pub leaves_placed : (start : ℕ) (new : Leaf) (ns : Nodes) → count start (leaves_of ns) ≤ 1 → leaves_of (with_range start new ns) ≡ all_placed start new (leaves_of ns)
+unfolding with_range with_range_in leaves_of entry_leaves
+leaves_placed start new = nodes_by (λ es. count start (entry_leaves es) ≤ 1 → entry_leaves (with_range_in start new es) ≡ all_placed start new (entry_leaves es)) (grind (arith, nat_tests, count_both, both_placed, none_placed))
 
 -- ---- order
 
--- the leaves with this First end where the new one does
-abbrev pub Ends : Leaf → Leaf → Type 0
-Ends new l = l.first ≡ new.first → l.last ≡ new.last
+-- the leaf with this First has the records of the new one
+abbrev pub Lies : ℕ → Leaf → Leaf → Type 0
+Lies start new l = l.first ≡ start → LiesIn l new.first new.last
 
-past_stays : (new : Leaf) (low : ℕ) (es : Entries) → Each (Ends new) (entry_leaves es) → past_entries low (with_place_in new es) ≡ past_entries low es
-unfolding with_place_in entry_leaves
-past_stays new low no_entry e = refl
-past_stays new low (block f l p k es) e = grind (arith, nat_tests, e, past_stays new (suc l) es)
-past_stays new low (lower f l ns es) e = past_stays new (suc l) es (Each-split (Ends new) (leaves_of ns) (entry_leaves es) e).1
+past_earlier : (low' low : ℕ) (es : Entries) → low' ≤ low → past_entries low' es ≤ past_entries low es
+past_earlier low' low no_entry le = le
+past_earlier low' low (block f l p k es) le = omega arith
+past_earlier low' low (lower f l ns es) le = omega arith
 
-pub order_placed : (new : Leaf) (low high : ℕ) (ns : Nodes) → InOrder low high ns → Each (Ends new) (leaves_of ns) → InOrder low high (with_place new ns)
-unfolding with_place with_place_in leaves_of entry_leaves InOrder AreInOrder
-order_placed new = nodes_within (λ low high es. AreInOrder low high es → Each (Ends new) (entry_leaves es) → AreInOrder low high (with_place_in new es)) (grind (arith, nat_tests, Each-split (Ends new), past_stays new))
+entries_earlier : (low' low high : ℕ) (es : Entries) → low' ≤ low → AreInOrder low high es → AreInOrder low' high es
+unfolding AreInOrder
+entries_earlier low' low high no_entry le o = tt
+entries_earlier low' low high (block f l p k es) le o = (omega (arith, o.0), o.1, o.2, o.3)
+entries_earlier low' low high (lower f l ns es) le o = (omega (arith, o.0), o.1, o.2, o.3, o.4)
 
-pub ends_by : (low upto : ℕ) (ls : List Leaf) (old new : Leaf) → Ascending low upto ls → IsOneOf ls old → new.first ≡ old.first → new.last ≡ old.last → Each (Ends new) ls
-ends_by low upto [] old new a i f l = tt
-ends_by low upto (x ∷ xs) old new a (inl q) f l = (grind (arith, q, f, l), each_of (Ends new) xs (λ y j e. absurd (omega (arith, count_some xs y j, count_below old.first (suc x.last) upto xs a.3 (grind (arith, q, a.1)), ap (λ (n : ℕ). count n xs) (e ∙ f)))))
-ends_by low upto (x ∷ xs) old new a (inr i) f l = ((λ e. absurd (omega (arith, count_some xs old i, count_below old.first (suc x.last) upto xs a.3 (omega (arith, e, f, a.1))))), ends_by (suc x.last) upto xs old new a.3 i f l)
+order_earlier : (low' low high : ℕ) (ns : Nodes) → low' ≤ low → InOrder low high ns → InOrder low' high ns
+unfolding InOrder
+order_earlier low' low high no_node le o = tt
+order_earlier low' low high (node place room es more) le o = (entries_earlier low' low high es le o.0, order_earlier (past_entries low' es) (past_entries low es) high more (past_earlier low' low es le) o.1)
+
+past_placed : (start : ℕ) (new : Leaf) (low : ℕ) (es : Entries) → Each (Lies start new) (entry_leaves es) → past_entries low (with_range_in start new es) ≤ past_entries low es
+unfolding with_range_in entry_leaves
+past_placed start new low no_entry e = omega arith
+past_placed start new low (block f l p k es) e = elim (cases_eq f start) [
+  | inl q ↦ rw (eq-eqb f start q) (past_earlier (suc new.last) (suc l) es (omega (arith, (e.0 q).ends)))
+  | inr ne ↦ rw (ne_eqb f start ne) (past_placed start new (suc l) es e.1)
+]
+past_placed start new low (lower f l ns es) e = past_placed start new (suc l) es (Each-split (Lies start new) (leaves_of ns) (entry_leaves es) e).1
+
+mutual
+  unfolding with_range with_range_in leaves_of entry_leaves InOrder AreInOrder
+
+  pub order_placed : (start : ℕ) (new : Leaf) (low high : ℕ) (ns : Nodes) → InOrder low high ns → Each (Lies start new) (leaves_of ns) → InOrder low high (with_range start new ns)
+  order_placed start new low high no_node o e = tt
+  order_placed start new low high (node place room es more) o e =
+      let each = Each-split (Lies start new) (entry_leaves es) (leaves_of more) e in
+      (entries_placed start new low high es o.0 each.0, order_earlier (past_entries low (with_range_in start new es)) (past_entries low es) high (with_range start new more) (past_placed start new low es each.0) (order_placed start new (past_entries low es) high more o.1 each.1))
+
+  entries_placed : (start : ℕ) (new : Leaf) (low high : ℕ) (es : Entries) → AreInOrder low high es → Each (Lies start new) (entry_leaves es) → AreInOrder low high (with_range_in start new es)
+  entries_placed start new low high no_entry o e = tt
+  entries_placed start new low high (block f l p k es) o e = elim (cases_eq f start) [
+    | inl q ↦ let lies = e.0 q in rw (eq-eqb f start q) (omega (arith, o.0, lies.begins), lies.ordered, omega (arith, o.2, lies.ends), entries_earlier (suc new.last) (suc l) high es (omega (arith, lies.ends)) o.3)
+    | inr ne ↦ rw (ne_eqb f start ne) (o.0, o.1, o.2, entries_placed start new (suc l) high es o.3 e.1)
+  ]
+  entries_placed start new low high (lower f l ns es) o e =
+      let each = Each-split (Lies start new) (leaves_of ns) (entry_leaves es) e in
+      (o.0, o.1, o.2, order_placed start new f l ns o.3 each.0, entries_placed start new (suc l) high es o.4 each.1)
+
+pub lies_by : (low upto : ℕ) (ls : List Leaf) (old new : Leaf) → Ascending low upto ls → IsOneOf ls old → LiesIn old new.first new.last → Each (Lies old.first new) ls
+lies_by low upto [] old new a i lies = tt
+lies_by low upto (x ∷ xs) old new a (inl q) lies = ((λ e. subst (λ (y : Leaf). LiesIn y new.first new.last) (sym q) lies), each_of (Lies old.first new) xs (λ y j e. absurd (omega (arith, count_some xs y j, count_below old.first (suc x.last) upto xs a.3 (grind (arith, q, a.1)), ap (λ (n : ℕ). count n xs) e))))
+lies_by low upto (x ∷ xs) old new a (inr i) lies = ((λ e. absurd (omega (arith, count_some xs old i, count_below old.first (suc x.last) upto xs a.3 (omega (arith, e, a.1))))), lies_by (suc x.last) upto xs old new a.3 i lies)
+
+-- ---- a leaf that has all its records
+
+-- only the place is another one
+pub with_range_is : (new : Leaf) (ns : Nodes) → with_range new.first new ns ≡ with_place new ns
+unfolding with_range with_range_in with_place with_place_in
+with_range_is new = nodes_by (λ es. with_range_in new.first new es ≡ with_place_in new es) (grind (arith, nat_tests))
+
+-- where the place is the same, the index is
+same_range : (old : Leaf) (ns : Nodes) → Each (λ (l : Leaf). l.first ≡ old.first → l ≡ old) (leaves_of ns) → with_range old.first old ns ≡ ns
+unfolding with_range with_range_in leaves_of entry_leaves
+same_range old = nodes_by (λ es. Each (λ (l : Leaf). l.first ≡ old.first → l ≡ old) (entry_leaves es) → with_range_in old.first old es ≡ es) (grind (arith, nat_tests, Each-split (λ (l : Leaf). l.first ≡ old.first → l ≡ old)))
+
+one_first : (low upto : ℕ) (ls : List Leaf) (old : Leaf) → Ascending low upto ls → IsOneOf ls old → Each (λ (l : Leaf). l.first ≡ old.first → l ≡ old) ls
+one_first low upto [] old a i = tt
+one_first low upto (x ∷ xs) old a (inl q) = ((λ e. q), each_of (λ (l : Leaf). l.first ≡ old.first → l ≡ old) xs (λ y j e. absurd (omega (arith, count_some xs y j, count_below old.first (suc x.last) upto xs a.3 (grind (arith, q, a.1)), ap (λ (n : ℕ). count n xs) e))))
+one_first low upto (x ∷ xs) old a (inr i) = ((λ e. absurd (omega (arith, count_some xs old i, count_below old.first (suc x.last) upto xs a.3 (omega (arith, e, a.1))))), one_first (suc x.last) upto xs old a.3 i)
+
+pub range_same : (low upto : ℕ) (old : Leaf) (ns : Nodes) → Ascending low upto (leaves_of ns) → IsOneOf (leaves_of ns) old → with_range old.first old ns ≡ ns
+range_same low upto old ns a i = same_range old ns (one_first low upto (leaves_of ns) old a i)
 
 -- ---- one entry of one node
 
@@ -145,13 +200,13 @@ mutual
     | inr j ↦ omega (arith, some_below f n at es h.1 j, count_both f (leaves_of ns) (entry_leaves es))
   ]
 
-swapped_is : (new : Leaf) (n : ℕ) (es : Entries) → NamesBlock new.first n es → count new.first (entry_leaves es) ≤ 1 → swapped n new es ≡ with_place_in new es
-unfolding entry_leaves with_place_in
-swapped_is new n no_entry h one = refl
-swapped_is new zero (block f l p k es) h one = grind (arith, nat_tests, h)
-swapped_is new zero (lower f l ns es) h one = absurd h
-swapped_is new (suc n) (block f l p k es) h one = grind (arith, nat_tests, one, one_there new.first n es h, swapped_is new n es h)
-swapped_is new (suc n) (lower f l ns es) h one = grind (arith, one, count_both new.first (leaves_of ns) (entry_leaves es), absent new ns, one_there new.first n es h, swapped_is new n es h)
+swapped_is : (start : ℕ) (new : Leaf) (n : ℕ) (es : Entries) → NamesBlock start n es → count start (entry_leaves es) ≤ 1 → swapped n new es ≡ with_range_in start new es
+unfolding entry_leaves with_range_in
+swapped_is start new n no_entry h one = refl
+swapped_is start new zero (block f l p k es) h one = grind (arith, nat_tests, h)
+swapped_is start new zero (lower f l ns es) h one = absurd h
+swapped_is start new (suc n) (block f l p k es) h one = grind (arith, nat_tests, one, one_there start n es h, swapped_is start new n es h)
+swapped_is start new (suc n) (lower f l ns es) h one = grind (arith, one, count_both start (leaves_of ns) (entry_leaves es), absent start new ns, one_there start n es h, swapped_is start new n es h)
 
 Distinct-apart : (xs ys : List ℕ) → Distinct (xs ++ ys) → (m : ℕ) → In m xs → In m ys → ⊥
 Distinct-apart [] ys d m i j = absurd i
@@ -168,79 +223,79 @@ below_out at edit no_entry out = refl
 below_out at edit (block f l p k es) out = ap (λ (xs : Entries). block f l p k xs) (below_out at edit es out)
 below_out at edit (lower f l ns es) out = ap₂ (λ (xs : Nodes) (ys : Entries). lower f l xs ys) (redo_out at edit ns (λ i. out (In-append_left at (nodes_of ns) (lower_nodes es) i))) (below_out at edit es (λ i. out (In-append_right at (nodes_of ns) (lower_nodes es) i)))
 
-absent_below : (new : Leaf) (es : Entries) → count new.first (entry_leaves es) ≡ 0 → with_place_in new es ≡ es
-unfolding with_place with_place_in leaves_of entry_leaves
-absent_below new no_entry z = refl
-absent_below new (block f l p k es) z = grind (arith, nat_tests, z, absent_below new es)
-absent_below new (lower f l ns es) z = let all = count_both new.first (leaves_of ns) (entry_leaves es) in ap₂ (λ (xs : Nodes) (ys : Entries). lower f l xs ys) (absent new ns (omega (arith, all, z))) (absent_below new es (omega (arith, all, z)))
+absent_below : (start : ℕ) (new : Leaf) (es : Entries) → count start (entry_leaves es) ≡ 0 → with_range_in start new es ≡ es
+unfolding with_range with_range_in leaves_of entry_leaves
+absent_below start new no_entry z = refl
+absent_below start new (block f l p k es) z = grind (arith, nat_tests, z, absent_below start new es)
+absent_below start new (lower f l ns es) z = let all = count_both start (leaves_of ns) (entry_leaves es) in ap₂ (λ (xs : Nodes) (ys : Entries). lower f l xs ys) (absent start new ns (omega (arith, all, z))) (absent_below start new es (omega (arith, all, z)))
 
 mutual
-  unfolding NodeNames BelowName nodes_of lower_nodes leaves_of entry_leaves redo redo_below with_place with_place_in
+  unfolding NodeNames BelowName nodes_of lower_nodes leaves_of entry_leaves redo redo_below with_range with_range_in
 
   -- the node at a place, one of whose entries names the block, is the one that changes
-  pub swapping_is : (new : Leaf) (at i : ℕ) (ns : Nodes) → NodeNames new.first i at ns → Distinct (nodes_of ns) → count new.first (leaves_of ns) ≤ 1 → In at (nodes_of ns) → redo at (swapping new at i) ns ≡ with_place new ns
-  swapping_is new at i no_node h d one j = absurd j
-  swapping_is new at i (node place room es more) h d one j = elim (cases_eq place at) [
+  pub swapping_is : (start : ℕ) (new : Leaf) (at i : ℕ) (ns : Nodes) → NodeNames start i at ns → Distinct (nodes_of ns) → count start (leaves_of ns) ≤ 1 → In at (nodes_of ns) → redo at (swapping new at i) ns ≡ with_range start new ns
+  swapping_is start new at i no_node h d one j = absurd j
+  swapping_is start new at i (node place room es more) h d one j = elim (cases_eq place at) [
     | inl e ↦
         let here = h.0 e in
-        let some = one_there new.first i es here in
-        let all = count_both new.first (entry_leaves es) (leaves_of more) in
+        let some = one_there start i es here in
+        let all = count_both start (entry_leaves es) (leaves_of more) in
         let test : eqb place at ≡ true = eq-eqb place at e in
-        rw test (ap₂ (λ (xs : Entries) (ys : Nodes). node at room xs ys) (swapped_is new i es here (omega (arith, all, one))) (sym (absent new more (omega (arith, all, one, some)))) ∙ ap (λ (p : ℕ). node p room (with_place_in new es) (with_place new more)) (sym e))
+        rw test (ap₂ (λ (xs : Entries) (ys : Nodes). node at room xs ys) (swapped_is start new i es here (omega (arith, all, one))) (sym (absent start new more (omega (arith, all, one, some)))) ∙ ap (λ (p : ℕ). node p room (with_range_in start new es) (with_range start new more)) (sym e))
     | inr ne ↦
         let test : eqb place at ≡ false = ne_eqb place at ne in
-        let all = count_both new.first (entry_leaves es) (leaves_of more) in
+        let all = count_both start (entry_leaves es) (leaves_of more) in
         rw test (elim j [
           | inl q ↦ absurd (ne (sym q))
           | inr k ↦ elim (In-append at (lower_nodes es) (nodes_of more) k) [
             | inl y ↦
-                let some = some_below new.first i at es h.1 y in
+                let some = some_below start i at es h.1 y in
                 let out : In at (nodes_of more) → ⊥ = λ z. Distinct-apart (lower_nodes es) (nodes_of more) d.1 at y z in
-                ap₂ (λ (xs : Entries) (ys : Nodes). node place room xs ys) (swapping_below new at i es h.1 (Distinct-front (lower_nodes es) (nodes_of more) d.1) (omega (arith, all, one)) y) (redo_out at (swapping new at i) more out ∙ sym (absent new more (omega (arith, all, one, some))))
+                ap₂ (λ (xs : Entries) (ys : Nodes). node place room xs ys) (swapping_below start new at i es h.1 (Distinct-front (lower_nodes es) (nodes_of more) d.1) (omega (arith, all, one)) y) (redo_out at (swapping new at i) more out ∙ sym (absent start new more (omega (arith, all, one, some))))
             | inr y ↦
-                let some = some_there new.first i at more h.2 y in
+                let some = some_there start i at more h.2 y in
                 let out : In at (lower_nodes es) → ⊥ = λ z. Distinct-apart (lower_nodes es) (nodes_of more) d.1 at z y in
-                ap₂ (λ (xs : Entries) (ys : Nodes). node place room xs ys) (below_out at (swapping new at i) es out ∙ sym (absent_below new es (omega (arith, all, one, some)))) (swapping_is new at i more h.2 (Distinct-back (lower_nodes es) (nodes_of more) d.1) (omega (arith, all, one)) y)
+                ap₂ (λ (xs : Entries) (ys : Nodes). node place room xs ys) (below_out at (swapping new at i) es out ∙ sym (absent_below start new es (omega (arith, all, one, some)))) (swapping_is start new at i more h.2 (Distinct-back (lower_nodes es) (nodes_of more) d.1) (omega (arith, all, one)) y)
           ]
         ])
   ]
 
-  pub swapping_below : (new : Leaf) (at i : ℕ) (es : Entries) → BelowName new.first i at es → Distinct (lower_nodes es) → count new.first (entry_leaves es) ≤ 1 → In at (lower_nodes es) → redo_below at (swapping new at i) es ≡ with_place_in new es
-  swapping_below new at i no_entry h d one j = absurd j
-  swapping_below new at i (block f l p k es) h d one j =
-      let some = some_below new.first i at es h j in
-      let other : eqb f new.first ≡ false = grind (arith, nat_tests, one, some) in
-      rw other (ap (λ (xs : Entries). block f l p k xs) (swapping_below new at i es h d (grind (arith, nat_tests, one)) j))
-  swapping_below new at i (lower f l ns es) h d one j =
-      let all = count_both new.first (leaves_of ns) (entry_leaves es) in
+  pub swapping_below : (start : ℕ) (new : Leaf) (at i : ℕ) (es : Entries) → BelowName start i at es → Distinct (lower_nodes es) → count start (entry_leaves es) ≤ 1 → In at (lower_nodes es) → redo_below at (swapping new at i) es ≡ with_range_in start new es
+  swapping_below start new at i no_entry h d one j = absurd j
+  swapping_below start new at i (block f l p k es) h d one j =
+      let some = some_below start i at es h j in
+      let other : eqb f start ≡ false = grind (arith, nat_tests, one, some) in
+      rw other (ap (λ (xs : Entries). block f l p k xs) (swapping_below start new at i es h d (grind (arith, nat_tests, one)) j))
+  swapping_below start new at i (lower f l ns es) h d one j =
+      let all = count_both start (leaves_of ns) (entry_leaves es) in
       elim (In-append at (nodes_of ns) (lower_nodes es) j) [
         | inl y ↦
-            let some = some_there new.first i at ns h.0 y in
+            let some = some_there start i at ns h.0 y in
             let out : In at (lower_nodes es) → ⊥ = λ z. Distinct-apart (nodes_of ns) (lower_nodes es) d at y z in
-            ap₂ (λ (xs : Nodes) (ys : Entries). lower f l xs ys) (swapping_is new at i ns h.0 (Distinct-front (nodes_of ns) (lower_nodes es) d) (omega (arith, all, one)) y) (below_out at (swapping new at i) es out ∙ sym (absent_below new es (omega (arith, all, one, some))))
+            ap₂ (λ (xs : Nodes) (ys : Entries). lower f l xs ys) (swapping_is start new at i ns h.0 (Distinct-front (nodes_of ns) (lower_nodes es) d) (omega (arith, all, one)) y) (below_out at (swapping new at i) es out ∙ sym (absent_below start new es (omega (arith, all, one, some))))
         | inr y ↦
-            let some = some_below new.first i at es h.1 y in
+            let some = some_below start i at es h.1 y in
             let out : In at (nodes_of ns) → ⊥ = λ z. Distinct-apart (nodes_of ns) (lower_nodes es) d at z y in
-            ap₂ (λ (xs : Nodes) (ys : Entries). lower f l xs ys) (redo_out at (swapping new at i) ns out ∙ sym (absent new ns (omega (arith, all, one, some)))) (swapping_below new at i es h.1 (Distinct-back (nodes_of ns) (lower_nodes es) d) (omega (arith, all, one)) y)
+            ap₂ (λ (xs : Nodes) (ys : Entries). lower f l xs ys) (redo_out at (swapping new at i) ns out ∙ sym (absent start new ns (omega (arith, all, one, some)))) (swapping_below start new at i es h.1 (Distinct-back (nodes_of ns) (lower_nodes es) d) (omega (arith, all, one)) y)
       ]
 
-pub link_stays : (new : Leaf) (ns : Nodes) → link_to (with_place new ns) ≡ link_to ns
-unfolding with_place
-link_stays new no_node = refl
-link_stays new (node place room es more) = refl
+pub link_stays : (start : ℕ) (new : Leaf) (ns : Nodes) → link_to (with_range start new ns) ≡ link_to ns
+unfolding with_range
+link_stays start new no_node = refl
+link_stays start new (node place room es more) = refl
 
 -- ---- the leaves once more, one by one
 
 -- one of them is the new one, or has another First
-pub one_placed : (new : Leaf) (ls : List Leaf) (l : Leaf) → IsOneOf (all_placed new ls) l → (l ≡ new) ⊎ (IsOneOf ls l × (l.first ≢ new.first))
-one_placed new [] l i = absurd i
-one_placed new (x ∷ xs) l i = grind (arith, nat_tests, i, one_placed new xs l)
+pub one_placed : (start : ℕ) (new : Leaf) (ls : List Leaf) (l : Leaf) → IsOneOf (all_placed start new ls) l → (l ≡ new) ⊎ (IsOneOf ls l × (l.first ≢ start))
+one_placed start new [] l i = absurd i
+one_placed start new (x ∷ xs) l i = grind (arith, nat_tests, i, one_placed start new xs l)
 
-pub new_placed : (old new : Leaf) (ls : List Leaf) → IsOneOf ls old → new.first ≡ old.first → IsOneOf (all_placed new ls) new
-new_placed old new [] i e = absurd i
-new_placed old new (x ∷ xs) i e = grind (arith, nat_tests, i, e, new_placed old new xs)
+pub new_placed : (old new : Leaf) (ls : List Leaf) → IsOneOf ls old → IsOneOf (all_placed old.first new ls) new
+new_placed old new [] i = absurd i
+new_placed old new (x ∷ xs) i = grind (arith, nat_tests, i, new_placed old new xs)
 
-pub places_times : (old new : Leaf) (ls : List Leaf) (m : ℕ) → IsOneOf ls old → new.first ≡ old.first → count new.first ls ≤ 1 → times m (places_of (all_placed new ls)) + times m (old.place ∷ []) ≡ times m (places_of ls) + times m (new.place ∷ [])
-places_times old new [] m i e one = absurd i
-places_times old new (x ∷ xs) m (inl q) e one = grind (arith, nat_tests, q, e, one, none_placed new xs)
-places_times old new (x ∷ xs) m (inr i) e one = grind (arith, nat_tests, e, one, count_some xs old i, places_times old new xs m i e)
+pub places_times : (old new : Leaf) (ls : List Leaf) (m : ℕ) → IsOneOf ls old → count old.first ls ≤ 1 → times m (places_of (all_placed old.first new ls)) + times m (old.place ∷ []) ≡ times m (places_of ls) + times m (new.place ∷ [])
+places_times old new [] m i one = absurd i
+places_times old new (x ∷ xs) m (inl q) one = grind (arith, nat_tests, q, one, none_placed old.first new xs)
+places_times old new (x ∷ xs) m (inr i) one = grind (arith, nat_tests, one, count_some xs old i, places_times old new xs m i)

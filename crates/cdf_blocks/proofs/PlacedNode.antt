@@ -1,6 +1,6 @@
--- One entry of a node was written, and names another block: the image then has the index in which the leaf has another place.
+-- One entry of a node was written, and names a block: the image then has the index in which the leaf is another one.
 use Rattle.cdf_blocks.proofs.Common.{Entries, IsNode, Leaf, List, Nodes, SayEntries, SaysEntry, arith, block, entry_count, false, is_linkable, link_to, lower, no_entry, no_node, node, refl, room_at, suc, sym, true, used_count, vxr_type, zero, ℕ, ◌+◌, ◌<◌, ◌∙◌, ◌≡◌, ◌≢◌, ◌≤◌}
-unfoldable use Rattle.cdf_blocks.proofs.Common.{HasNodes, Names, lower_nodes, nodes_of}
+unfoldable use Rattle.cdf_blocks.proofs.Common.{HasNodes, Names}
 use Rattle.cdf_index.proofs.Common.{EntrySet, MayName, Owed, SameHeads, StillSays, length, linkable_kept}
 use Rattle.cdf_index.proofs.NodeGrown.{node_has}
 use Rattle.cdf_index.proofs.Saying.{say_moved}

@@ -8,11 +8,12 @@ use Rattle.cdf_leaves.proofs.Spares.{Spares, fits_still, node_inside}
 use Rattle.cdf_edits.proofs.Edits.RecordGrown.{Grew, grew}
 use Rattle.cdf_blocks.specs.Blocks.{HasLeaf, block_body}
 use Rattle.cdf_blocks.specs.Replaced.{Moved}
+use Rattle.cdf_blocks.specs.declared.placing.Part.{Part}
 use Rattle.cdf_blocks.specs.declared.placing.Site.{Site}
 use Rattle.cdf_blocks.proofs.MovedLinked as of_linked
 use Rattle.cdf_blocks.proofs.NewBlock.{body_is, body_long, bytes_short}
 
-module _ {b : List ℕ} {site : Site} {l : Leaf} {packed : Bool} {bytes : List ℕ} {limit : ℕ} (k : HasLeaf b site l packed bytes limit) where
+module _ {b : List ℕ} {site : Site} {l : Leaf} {records : Part} {packed : Bool} {bytes : List ℕ} {limit : ℕ} (k : HasLeaf b site l records packed bytes limit) where
   pub sound_before : IsSound b (shape b)
   sound_before = good_is_sound b k.leaf.good
 
@@ -48,15 +49,15 @@ module _ {b : List ℕ} {site : Site} {l : Leaf} {packed : Bool} {bytes : List �
     number_there = omega (arith, k.leaf.site_is.used, (of_own.node_fits k.leaf.good k.leaf.among site.node k.leaf.site_is.there).1, k.leaf.site_is.room_is)
 
     -- the image, once the entry names the record
-    module _ {linked : List ℕ} (set : EntrySet filled linked site.node site.number l.first l.last place) where
+    module _ {linked : List ℕ} (set : EntrySet filled linked site.node site.number records.first records.last place) where
       abbrev new : Leaf
-      new = record { first = l.first; last = l.last; place = place; packed = packed }
+      new = record { first = records.first; last = records.last; place = place; packed = packed }
 
       pub linked_sound : IsSound linked (shape linked)
-      linked_sound = of_linked.linked_sound k.leaf.good k.leaf.among l new k.leaf.one refl refl bytes site.node site.number k.leaf.site_is.there k.leaf.site_is.used k.leaf.site_is.says block set k.plain k.leaf.rle k.leaf.as_long k.leaf.stored (few most)
+      linked_sound = of_linked.linked_sound k.leaf.good k.leaf.among l new k.leaf.one k.leaf.lies bytes site.node site.number k.leaf.site_is.there k.leaf.site_is.used k.leaf.site_is.says block set k.plain k.leaf.rle k.leaf.as_long k.leaf.stored (few most)
 
       pub old_free : AreFree linked (l.place ∷ [])
-      old_free = of_linked.old_free k.leaf.good k.leaf.among l new k.leaf.one refl refl bytes site.node site.number k.leaf.site_is.there k.leaf.site_is.used k.leaf.site_is.says block set k.plain k.leaf.rle k.leaf.as_long k.leaf.stored (few most)
+      old_free = of_linked.old_free k.leaf.good k.leaf.among l new k.leaf.one k.leaf.lies bytes site.node site.number k.leaf.site_is.there k.leaf.site_is.used k.leaf.site_is.says block set k.plain k.leaf.rle k.leaf.as_long k.leaf.stored (few most)
 
       pub moved : {now : List ℕ} → IsGiven linked now (shape linked) (shape now) l.place → Moved b now site l new bytes
       moved {now = now} given = record { filled = filled; block = block; linked = linked; entry = set; given = (now, (given, refl)) }

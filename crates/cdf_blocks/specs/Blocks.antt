@@ -1,7 +1,6 @@
 -- What the block of a leaf holds, what a new record for it has, and where an entry names it (own; CDF Internal Format Description, "Variable Values Record", "Compressed Variable Values Record").
 use Rattle.std.specs.Prelude.{◌≡◌, ◌<◌, ◌≤◌, ℕ, ◌+◌, ◌-◌, ◌*◌, max, List, [], ◌∷◌, ◌++◌, length, replicate, Bool, true, false}
-use Rattle.cdf_edits.proofs.Edits.LeafPieces.{IsOneOf}
-use Rattle.cdf_edits.proofs.Edits.StandsAmong.{StandsAmong}
+use Rattle.cdf_edits.specs.Edits.Standing.{IsOneOf, StandsAmong}
 use Rattle.cdf_edits.specs.Frame.Changed.{Changed, Touch, touched_field}
 use Rattle.cdf_edits.specs.Index.Written.{is_worth_packing}
 use Rattle.cdf_edits.specs.Space.Placing.{laid_out}
@@ -18,6 +17,7 @@ use Rattle.cdf_format.specs.WellFormed.{Good}
 use Rattle.cdf_model.specs.RunLengths.{IsLongest, Packs}
 use Rattle.cdf_model.specs.declared.kinds.Kind.{Kind}
 use Rattle.cdf_packed.specs.Choice.{IsChosen}
+use Rattle.cdf_blocks.specs.declared.placing.Part.{Part}
 use Rattle.cdf_blocks.specs.declared.placing.Site.{Site}
 
 -- ---- the bytes of a block
@@ -77,27 +77,52 @@ pub record IsSite (b : List ℕ) (index : Nodes) (site : Site) (l : Leaf) : Type
   pub used : site.number < used_count b site.node
   pub says : SaysEntry b site.node site.number l.first l.last l.place
 
--- A leaf of a packed variable of a good image, which this entry names, and as many plain bytes as it has, which are stored so; there is room for a new record under a limit.
-pub record IsLeafOf (b : List ℕ) (kind : Kind) (before : List VariableShape) (own : VariableShape) (after : List VariableShape) (site : Site) (l : Leaf) (plain : List ℕ) (packed : Bool) (bytes : List ℕ) (limit : ℕ) : Type 0 where
+-- records from a first to a last are among those of a leaf
+pub record LiesIn (l : Leaf) (first last : ℕ) : Type 0 where
+  pub begins : l.first ≤ first
+  pub ordered : first ≤ last
+  pub ends : last ≤ l.last
+
+-- A leaf of a packed variable of a good image, which this entry names, and as many plain bytes as these records of it have, which are stored so; there is room for a new record under a limit.
+pub record IsLeafOf (b : List ℕ) (kind : Kind) (before : List VariableShape) (own : VariableShape) (after : List VariableShape) (site : Site) (l : Leaf) (part : Part) (plain : List ℕ) (packed : Bool) (bytes : List ℕ) (limit : ℕ) : Type 0 where
   pub good : Good b
   pub among : StandsAmong b kind before own after
   pub rle : is_compressed b own.vdr ≡ true
   pub one : IsOneOf (leaves_of own.index) l
   pub site_is : IsSite b own.index site l
-  pub as_long : length plain ≡ (l.last + 1 - l.first) * record_bytes b own.vdr
+  pub lies : LiesIn l part.first part.last
+  pub as_long : length plain ≡ (part.last + 1 - part.first) * record_bytes b own.vdr
   pub stored : StoredAs plain packed bytes
   pub room : length b + max linked_size (stored_end packed (length bytes)) ≤ limit
 
 -- of some variable, and of some plain bytes
-pub record HasLeaf (b : List ℕ) (site : Site) (l : Leaf) (packed : Bool) (bytes : List ℕ) (limit : ℕ) : Type 0 where
+pub record HasLeaf (b : List ℕ) (site : Site) (l : Leaf) (part : Part) (packed : Bool) (bytes : List ℕ) (limit : ℕ) : Type 0 where
   pub kind : Kind
   pub before : List VariableShape
   pub own : VariableShape
   pub after : List VariableShape
   pub plain : List ℕ
-  pub leaf : IsLeafOf b kind before own after site l plain packed bytes limit
+  pub leaf : IsLeafOf b kind before own after site l part plain packed bytes limit
 
 -- likewise, before it is known how they are stored
+pub record IsPartOf (b : List ℕ) (kind : Kind) (before : List VariableShape) (own : VariableShape) (after : List VariableShape) (site : Site) (l : Leaf) (part : Part) (plain : List ℕ) (limit : ℕ) : Type 0 where
+  pub good : Good b
+  pub among : StandsAmong b kind before own after
+  pub rle : is_compressed b own.vdr ≡ true
+  pub one : IsOneOf (leaves_of own.index) l
+  pub site_is : IsSite b own.index site l
+  pub lies : LiesIn l part.first part.last
+  pub as_long : length plain ≡ (part.last + 1 - part.first) * record_bytes b own.vdr
+  pub room : length b + max linked_size (vvr_bytes (length plain)) ≤ limit
+
+pub record HasPart (b : List ℕ) (site : Site) (l : Leaf) (part : Part) (plain : List ℕ) (limit : ℕ) : Type 0 where
+  pub kind : Kind
+  pub before : List VariableShape
+  pub own : VariableShape
+  pub after : List VariableShape
+  pub is_part : IsPartOf b kind before own after site l part plain limit
+
+-- of all records of the leaf
 pub record IsPlainOf (b : List ℕ) (kind : Kind) (before : List VariableShape) (own : VariableShape) (after : List VariableShape) (site : Site) (l : Leaf) (plain : List ℕ) (limit : ℕ) : Type 0 where
   pub good : Good b
   pub among : StandsAmong b kind before own after

@@ -1,2 +1,4 @@
 pub mod Blocks
 pub mod Replaced
+pub mod Shortened
+pub mod Sites

@@ -1,6 +1,6 @@
--- The block of a leaf has other plain bytes: in its record, or in one that was taken, after which the old one was freed (own).
+-- The block of a leaf has other plain bytes, and its entry may have another range: in its record, or in one that was taken, after which the old one was freed (own).
 use Rattle.std.specs.Prelude.{◌≡◌, ◌≢◌, ℕ, List, [], ◌∷◌, true, Some}
-use Rattle.cdf_edits.proofs.Edits.LeafPieces.{IsOneOf}
+use Rattle.cdf_edits.specs.Edits.Standing.{IsOneOf}
 use Rattle.cdf_edits.specs.Commands.Allowances.{Stays}
 use Rattle.cdf_edits.specs.Commands.GreatestRecord.{r_max_rec}
 use Rattle.cdf_edits.specs.Commands.PutSteps.{BlockWritten, Goes, Stage, leaf_step}
@@ -15,16 +15,22 @@ use Rattle.cdf_format.specs.Shape.{Each, VariableShape}
 use Rattle.cdf_index.specs.Writing.{EntrySet}
 use Rattle.cdf_model.specs.declared.kinds.Kind.{Kind}
 use Rattle.cdf_puts.specs.Going.{GoesOn, found_in}
-use Rattle.cdf_blocks.specs.Blocks.{block_body}
+use Rattle.cdf_blocks.specs.Blocks.{Overwritten, block_body}
 use Rattle.cdf_blocks.specs.declared.placing.Site.{Site}
 use Rattle.std.specs.Prelude.{Bool}
+
+-- From an image to one in which other bytes stand in the record of the block, and to one in which its entry has another range.
+pub record Rewritten (b now : List ℕ) (site : Site) (old new : Leaf) (bytes : List ℕ) : Type 0 where
+  pub written : List ℕ
+  pub block : Overwritten b written old.place old.packed bytes
+  pub entry : EntrySet written now site.node site.number new.first new.last old.place
 
 -- From an image to one in which a record was taken for the block, to one in which its entry names it, and to one in which the old one was freed.
 pub record Moved (b now : List ℕ) (site : Site) (old new : Leaf) (bytes : List ℕ) : Type 0 where
   pub filled : List ℕ
   pub block : Placed b filled (block_body new.packed bytes) new.place
   pub linked : List ℕ
-  pub entry : EntrySet filled linked site.node site.number old.first old.last new.place
+  pub entry : EntrySet filled linked site.node site.number new.first new.last new.place
   pub given : AllGiven linked now (old.place ∷ [])
 
 -- an image with the variable, and what was taken and freed for it; a put is to go on with a record

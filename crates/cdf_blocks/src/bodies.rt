@@ -45,7 +45,7 @@ fn packed_body(alloc: Global, packed: &[u8]) -> Result<Vec<u8>, AllocError>
 }
 
 /// Of a block that is packed or not, and holds these bytes.
-pub(crate) fn block_body(alloc: Global, packed: bool, bytes: &[u8]) -> Result<Vec<u8>, AllocError>
+pub fn block_body(alloc: Global, packed: bool, bytes: &[u8]) -> Result<Vec<u8>, AllocError>
     ensures { IfOk result (λ body. body.items ≡ block_body packed bytes.now) }
 {
     if packed {

@@ -1,4 +1,4 @@
-//! The blocks of packed variables: one is given other plain bytes, packed where that makes its record shorter.
+//! The blocks of packed variables: one is found with the entry that names it, and given other plain bytes, or those of some of its records, packed where that makes its record shorter.
 #![tactic(auto)]
 
 mod blocks;
@@ -6,6 +6,12 @@ mod bodies;
 mod laws;
 mod overwriting;
 mod placing;
+mod shortening;
+mod sites;
+mod storing;
 
 pub use blocks::write_block;
-pub use placing::Site;
+pub use bodies::block_body;
+pub use placing::{Part, Site};
+pub use shortening::shorten_block;
+pub use sites::{SitedLeaf, find_site};

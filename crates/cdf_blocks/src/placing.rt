@@ -24,36 +24,44 @@ pub struct Site {
     pub number: u64,
 }
 
-/// Gives the block of a leaf another record, with these bytes: it is taken and written, the entry of the leaf then names it, and the old one is freed.
-/// After an error a part of this may have been done.
+/// Records of a leaf, from a first to a last.
+#[derive(Clone, Copy)]
+pub struct Part {
+    pub first: u32,
+    pub last: u32,
+}
+
+/// Gives the block of a leaf another record, with these bytes, and the leaf these records: it is taken and written, the entry of the leaf then names
+/// it, and the old one is freed. After an error a part of this may have been done.
 pub(crate) fn place_block<A: Area>(
     alloc: Global,
     area: &mut A,
     site: Site,
     leaf: &Leaf,
+    part: Part,
     packed: bool,
     bytes: &[u8],
 ) -> Result<Leaf, AreaError>
-    requires leaf { HasLeaf (A.image area.old) site (seen leaf.now) packed bytes.now (A.frame area.old).limit }
+    requires leaf { HasLeaf (A.image area.old) site (seen leaf.now) part packed bytes.now (A.frame area.old).limit }
     requires limit { (A.frame area.old).limit ≤ image_limit }
     ensures moved { IfOk result (λ new. Moved (A.image area.old) (A.image area.new) site (seen leaf.now) (seen new) bytes.now) }
-    ensures first { IfOk result (λ new. new.first ≡ leaf.now.first) }
-    ensures last { IfOk result (λ new. new.last ≡ leaf.now.last) }
+    ensures first { IfOk result (λ new. new.first ≡ part.first) }
+    ensures last { IfOk result (λ new. new.last ≡ part.last) }
     ensures packed { IfOk result (λ new. new.packed ≡ packed) }
     ensures area { Edits A.frame A.faults area.old area.new result }
 {
     let body = block_body(alloc, packed, bytes)?;
     let at = place_record(area, &body)?;
     let entry = Entry {
-        first: leaf.first,
-        last: leaf.last,
+        first: part.first,
+        last: part.last,
         place: at,
     };
     set_entry(area, site.node, site.room, site.number, entry)?;
     free_record(area, leaf.at)?;
     Ok(Leaf {
-        first: leaf.first,
-        last: leaf.last,
+        first: part.first,
+        last: part.last,
         at,
         packed,
     })

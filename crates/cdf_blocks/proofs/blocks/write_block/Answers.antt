@@ -1,23 +1,17 @@
-use Rattle.std.proofs.Common.{false, true}
-use Rattle.std.proofs.lemmas.Result.{IfOk-weaker}
-use Rattle.cdf_blocks.specs.Blocks.{StoredAs}
-use Rattle.cdf_blocks.proofs.StoringCalls.{has_leaf, leaf_of, stored_packed, stored_plain}
+use Rattle.std.proofs.Common.{refl}
+use Rattle.cdf_area.proofs.Calls.{edit_done, edit_failed, edit_once}
+use Rattle.cdf_blocks.proofs.StoringCalls.{has_part, whole_part}
+use Rattle.cdf_blocks.proofs.WholeShortened.{replaced}
 use Rattle.cdf_blocks.proofs.blocks.write_block.Goals as goal
 
-pub store_block-requires-clause-leaf : goal.store_block-requires-clause-leaf
-store_block-requires-clause-leaf g c =
-    has_leaf true c.deref.result.now
-    (rw c.deref.ensures.value (stored_packed c.args.plain.now c.in-Some.runs.items (rw c.in-Some.is at c.in_ok-packed.ensures.chosen) (rw c.in-Some.is at c.in_ok-packed.ensures.packs) (rw c.in-Some.is at c.in_ok-packed.ensures.longest) (rw c.in-Some.is at c.in_ok-packed.ensures.worth)))
-    c.requires.leaf
+pub shorten_block-requires-clause-leaf : goal.shorten_block-requires-clause-leaf
+shorten_block-requires-clause-leaf g c = has_part c.requires.leaf
 
-pub store_block-requires-in-None-clause-leaf : goal.store_block-requires-in-None-clause-leaf
-store_block-requires-in-None-clause-leaf g c = has_leaf false c.args.plain.now (stored_plain c.args.plain.now (rw c.in-None.is at c.in_ok-packed.ensures.chosen)) c.requires.leaf
+pub returns-in_err-new-clause-area : goal.returns-in_err-new-clause-area
+returns-in_err-new-clause-area g c = edit_failed (record { frame = refl; faults = refl }) c.in_err-new.ensures.area c.from_residual.ensures.1
 
-pub returns-in-Some-clause-replaced : goal.returns-in-Some-clause-replaced
-returns-in-Some-clause-replaced g c =
-    let stored : StoredAs c.args.plain.now true c.deref.result.now = rw c.deref.ensures.value (stored_packed c.args.plain.now c.in-Some.runs.items (rw c.in-Some.is at c.in_ok-packed.ensures.chosen) (rw c.in-Some.is at c.in_ok-packed.ensures.packs) (rw c.in-Some.is at c.in_ok-packed.ensures.longest) (rw c.in-Some.is at c.in_ok-packed.ensures.worth)) in
-    IfOk-weaker c.store_block.result _ _ (λ new replaced kind before own after p. replaced kind before own after c.args.plain.now (leaf_of true c.deref.result.now stored p)) c.store_block.ensures.replaced
+pub returns-clause-replaced : goal.returns-clause-replaced
+returns-clause-replaced g c = λ kind before own after p. replaced p.good p.among p.one c.in_ok-new.ensures.first c.in_ok-new.ensures.last (c.in_ok-new.ensures.shortened kind before own after (whole_part p))
 
-pub returns-in-None-clause-replaced : goal.returns-in-None-clause-replaced
-returns-in-None-clause-replaced g c =
-    IfOk-weaker c.store_block-in-None.result _ _ (λ new replaced kind before own after p. replaced kind before own after c.args.plain.now (leaf_of false c.args.plain.now (stored_plain c.args.plain.now (rw c.in-None.is at c.in_ok-packed.ensures.chosen)) p)) c.store_block-in-None.ensures.replaced
+pub returns-clause-area : goal.returns-clause-area
+returns-clause-area g c = edit_done (edit_once c.in_ok-new.ensures.area)

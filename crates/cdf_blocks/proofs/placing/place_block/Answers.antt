@@ -1,8 +1,11 @@
 use Rattle.std.proofs.Common.{refl, ◌∙◌}
-use Rattle.cdf_area.proofs.Calls.{edit_done, edit_failed, edit_more, edit_once}
+use Rattle.cdf_area.proofs.Calls.{edit_done, edit_failed, edit_more, edit_once, edit_without_memory}
 use Rattle.cdf_format.proofs.GoodSound.{good_eof}
 use Rattle.cdf_blocks.proofs.PlacingCalls.{body_fits, filled_short, linked_sound, moved, node_there, number_there, old_in, old_unowned, room_there, sound_before}
 use Rattle.cdf_blocks.proofs.placing.place_block.Goals as goal
+
+pub returns-in_err-body-clause-area : goal.returns-in_err-body-clause-area
+returns-in_err-body-clause-area g c = edit_without_memory (record { frame = refl; faults = refl }) c.from_residual.ensures.1
 
 pub place_record-requires-clause-sound : goal.place_record-requires-clause-sound
 place_record-requires-clause-sound g c = sound_before c.requires.leaf
