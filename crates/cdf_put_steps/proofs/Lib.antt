@@ -1,0 +1,13 @@
+pub mod SpaceMore
+pub mod SpaceOnce
+pub mod SpaceBytes
+pub mod FollowThen
+pub mod GoesAlong
+pub mod StepLeaves
+pub mod StepKeeps
+pub mod Along
+pub mod KeptAlong
+pub mod RecordPieces
+pub mod BlockKept
+pub mod StepStored
+pub mod PutContent
