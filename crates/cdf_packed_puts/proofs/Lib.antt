@@ -1,0 +1,4 @@
+pub mod AddedLeaf
+pub mod AddedNodes
+pub mod AddedGoes
+pub mod AddingCalls

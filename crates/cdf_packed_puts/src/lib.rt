@@ -1,0 +1,6 @@
+//! Records put into a packed variable: those of one leaf at once, into the block that has them or into a new one.
+#![tactic(auto)]
+
+mod adding;
+
+pub use adding::{Vacancy, add_packed};
