@@ -7,7 +7,6 @@ use Rattle.cdf_var_records.specs.declared.next.RecordReader.{RecordReader}
 use Rattle.cdf_var_records.specs.declared.next.Stored.{Stored}
 use Rattle.cdf_vars.specs.declared.vars.VarId.{VarId}
 use Rattle.cdf_var_records.specs.Unpacked.{IsUnpacked}
-use Rattle.cdf_var_records.specs.declared.unpacked.Unpacked.{Unpacked}
 use Rattle.cdf_vars.specs.Events.{IsNextOf, KnowsView, ReadsFrom, ShowsNext, variable_of_id}
 use Rattle.cdf_vars.specs.declared.record_view.LastRead.{LastRead}
 use Rattle.cdf_vars.specs.declared.record_view.RecordView.{RecordView}

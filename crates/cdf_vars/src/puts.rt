@@ -12,7 +12,6 @@ ghost use Rattle.cdf_model.specs.declared.command.Command.TheVariants.{PutRec, P
 ghost use Rattle.cdf_puts.specs.Starts.{IsKnownStart, KnowsStarts};
 ghost use Rattle.cdf_vars.specs.Known.{Knows};
 ghost use Rattle.cdf_vars.specs.Puts.{HasTarget, IsPutRequest, IsTarget, SeesTarget};
-ghost use Rattle.cdf_format.specs.Shape.{is_compressed};
 ghost use Rattle.cdf_format.specs.NotRead.{IsRead};
 
 use crate::padding::reason_of;
@@ -131,7 +130,6 @@ impl Vars {
         requires good { Good (A.image area.old) }
         requires short { length (A.image area.old) ≤ image_limit }
         requires target { IsTarget (A.image area.old) target }
-        requires unpacked { is_compressed (A.image area.old) target.form.place.vdr ≡ false }
         requires start { IsKnownStart (A.image area.old) target.form.place.vdr known }
         requires long { length value.now ≡ size_of target.form.shape.t * target.form.shape.elems }
         ensures request { IfOk result (λ request. (name : List ℕ) (words : List (List ℕ)) → HasTarget (A.image area.old) name target → values_in target.form.shape.t target.form.shape.elems 1 words ≡ Ok value.now → IsPutRequest (A.image area.old) (PutVal name rec index.now words) name rec request) }
@@ -167,7 +165,6 @@ impl Vars {
         words: &Words,
     ) -> Result<PutRequest, AreaError>
         requires good { Good (A.image area.old) }
-        requires read { IsRead (A.image area.old) }
         requires known { Knows (A.image area.old) self.now }
         requires starts { KnowsStarts (A.image area.old) starts.old }
         requires short { length (A.image area.old) ≤ image_limit }

@@ -3,7 +3,6 @@ use Rattle.cdf_vars.proofs.PutRequests.{one_long}
 use Rattle.cdf_vars.proofs.PutRead.{form_vdr}
 use Rattle.cdf_vars.proofs.RecordPlaces.{named_formed}
 use Rattle.cdf_vars.proofs.vars.Vars.read_value_request.Goals as goal
-use Rattle.cdf_vars.proofs.Unpacked.{unpacked_there}
 
 pub returns-in_default-clause-request : goal.returns-in_default-clause-request
 returns-in_default-clause-request g c limit =
@@ -19,7 +18,7 @@ pub read_place_request-requires : goal.read_place_request-requires
 read_place_request-requires g c =
     let has = rw c.in-Some.is at c.in_ok-target.ensures.target in
     let long = ap (λ (x : List ℕ). length x) c.deref.ensures.value ∙ one_long has c.args.rec c.requires.good c.args.words.now c.in-Ok.value.items c.in-Ok.ensures.ok in
-    rw (c.find_start.ensures.area.image, c.find_target.ensures.area.image) (record { good = c.requires.good; short = c.requires.short; target = has.is; unpacked = unpacked_there _ _ c.requires.read (form_vdr c.requires.good has.is.is_form); start = rw (c.find_target.ensures.area.image) at c.in_ok-known.ensures.start; long = long })
+    rw (c.find_start.ensures.area.image, c.find_target.ensures.area.image) (record { good = c.requires.good; short = c.requires.short; target = has.is; start = rw (c.find_target.ensures.area.image) at c.in_ok-known.ensures.start; long = long })
 
 pub returns-in-Ok-clause-request : goal.returns-in-Ok-clause-request
 returns-in-Ok-clause-request g c =
