@@ -1,7 +1,7 @@
 -- As far as a put went: it goes on from the first image; a block of which no record is written stays, and so does the record that says how the variable is packed.
-use Rattle.cdf_edits.proofs.Common.{Act, AllKeep, Allowance, Allowances, Good, In, Keeps, Kind, Leaf, List, Only, Option, Range, Stays, VariableShape, Variable, [], ap, append-nil, arith, covers, eq-eqb, false, image_limit, inl, inr, leaves_of, length, nat_lt, nat_tests, or_parts, owned, put_changes, range, range_at, record_number_limit, refl, shape, shared, subst, suc, sym, variable_of, variable_records, ℕ, ◌&&◌, ◌++◌, ◌<◌, ◌∙◌, ◌≡◌, ◌≤◌, ◌⊎◌, number, vdr_max_rec, extent, cpr_of, either}
+use Rattle.cdf_edits.proofs.Common.{Act, AllKeep, Allowance, Allowances, Good, In, Keeps, Kind, Leaf, List, Only, Option, Range, Stays, VariableShape, Variable, [], ap, append-nil, arith, covers, eq-eqb, false, image_limit, inl, inr, leaves_of, length, nat_lt, nat_tests, or_parts, owned, put_changes, range, range_at, record_number_limit, refl, shape, shared, subst, suc, sym, variable_of, variable_records, ℕ, ◌&&◌, ◌++◌, ◌<◌, ◌∙◌, ◌≡◌, ◌≤◌, ◌⊎◌, number, vdr_max_rec, extent, cpr_of, either, r_max_rec, gdr_r_max_rec, with_sign, gdr_offset, integer4}
 use Rattle.cdf_edits.proofs.Commands.KeptRecords.{keeps_stood}
-use Rattle.cdf_edits.proofs.Edits.Common.{StandsAmong, behind_in, block_behind, cpr_behind, has, index_records, long, same_as_itself, stays_then, stays_word}
+use Rattle.cdf_edits.proofs.Edits.Common.{StandsAmong, behind_in, block_behind, cpr_behind, has, index_records, long, same_as_itself, stays_then, stays_word, gdr_long, sound}
 use Rattle.cdf_edits.proofs.Edits.LeafPieces.{IsOneOf, in_order, place_in}
 use Rattle.cdf_edits.proofs.Edits.PlainLeaves.{leaves_ascend, own_rules}
 use Rattle.cdf_edits.proofs.Edits.RecordsWritten.{WritesRecords, behind_kept}
@@ -20,7 +20,7 @@ use Rattle.cdf_puts.specs.Going.{GoesOn, found_in, put_fields}
 use Rattle.cdf_puts.specs.SoFar.{MaxRecDone}
 use Rattle.cdf_put_steps.proofs.Along.{by_along, longer_along}
 use Rattle.cdf_put_steps.proofs.GoesAlong.{goes_along}
-use Rattle.cdf_put_steps.proofs.StepKeeps.{block_unchanged, cpr_allowed, cpr_unchanged, vdr_unchanged}
+use Rattle.cdf_put_steps.proofs.StepKeeps.{block_unchanged, cpr_allowed, cpr_unchanged, gdr_unchanged, vdr_unchanged}
 use Rattle.cdf_put_steps.proofs.StepLeaves.{LeavesStep, step_leaves}
 use Rattle.cdf_put_steps.specs.Along.{PutsAlong, at_start, put_in}
 
@@ -42,6 +42,7 @@ pub record KeptSo (b : List ℕ) (kind : Kind) (before : List VariableShape) (ow
   pub cpr_is : stage.own.cpr ≡ own.cpr
   pub cpr : (m : ℕ) → In m own.cpr → Stays b stage.image m []
   pub max_rec : number stage.image stage.own.vdr vdr_max_rec ≡ number b own.vdr vdr_max_rec
+  pub r_max : r_max_rec stage.image ≡ r_max_rec b
 
 -- a record stays in its own image
 stays_itself : (b : List ℕ) (m : ℕ) → In m (shape b).records → Stays b b m []
@@ -57,6 +58,7 @@ module _ {b : List ℕ} {kind : Kind} {before : List VariableShape} {own : Varia
     cpr_is = refl;
     cpr = λ m i. stays_itself b m (behind_in good at m (cpr_behind own m i));
     max_rec = refl;
+    r_max = refl;
   }
 
   module _ (from to : Stage) (acts : List Act) (x : KeptSo b kind before own after n from acts) (leaf : PutsLeaf (put_in b kind before own n raw) from to) (one : GoesOn from.image to.image kind before from.own to.own after to.acts) where
@@ -89,6 +91,15 @@ module _ {b : List ℕ} {kind : Kind} {before : List VariableShape} {own : Varia
         let wide = long x.goes.good x.goes.among in
         ap (λ (m : ℕ). number to.image m vdr_max_rec) one.vdr_is ∙ stays_word vdr 24 4 (omega arith) (λ i low high. grind (arith, low, high)) ∙ x.max_rec
 
+    r_max_then : r_max_rec to.image ≡ r_max_rec b
+    r_max_then =
+        let h = (sound x.goes.good x.goes.among).has_shape in
+        let there : gdr_offset from.image ≡ (shape from.image).gdr = h.gdr_is in
+        let gdr = gdr_unchanged from.image to.image (found_in b kind before own) (covers from.next) to.acts x.goes.good x.goes.among refl leaf.goes.keeps in
+        let wide = gdr_long from.image (shape from.image) h in
+        ap (λ (m : ℕ). integer4 to.image m gdr_r_max_rec) (one.file.gdr_is ∙ there) ∙ ap with_sign (stays_word gdr gdr_r_max_rec.place 4 (omega (arith, wide)) (λ i low high. grind (arith, low, high)))
+        ∙ ap (λ (m : ℕ). integer4 from.image m gdr_r_max_rec) (sym there) ∙ x.r_max
+
     pub kept_then : KeptSo b kind before own after n to (acts ++ to.acts)
     kept_then = record {
       from = omega (arith, x.from, leaf.next_is, leaves_step.upto);
@@ -98,6 +109,7 @@ module _ {b : List ℕ} {kind : Kind} {before : List VariableShape} {own : Varia
       cpr_is = cpr_same ∙ x.cpr_is;
       cpr = cpr_then;
       max_rec = max_rec_then;
+      r_max = r_max_then;
     }
 
 pub kept_along : {b : List ℕ} {kind : Kind} {before : List VariableShape} {own : VariableShape} {after : List VariableShape} {n : ℕ} {raw : List ℕ} {to : Stage} {acts : List Act} → PutsAlong b kind before own after n raw to acts → length to.image ≤ image_limit → KeptSo b kind before own after n to acts

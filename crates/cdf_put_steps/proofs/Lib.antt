@@ -10,4 +10,5 @@ pub mod KeptAlong
 pub mod RecordPieces
 pub mod BlockKept
 pub mod StepStored
+pub mod StepsDone
 pub mod PutContent

@@ -1,26 +1,25 @@
 -- What is stored as each record once a put went past it, and that the content is as the data set says.
-use Rattle.cdf_edits.proofs.Common.{Act, Bool, Good, Kind, Leaf, List, Option, Some, Variable, VariableShape, [], ap, arith, cases_lt, content, either, eq-eqb, extent, false, filled, image_limit, inl, inr, is_little, is_sparse, last_number, leaves_of, length, max_rec_at, nat_lt, nat_tests, ne_eqb, number, option_map, pad_record, plain_bytes, record_bytes, record_number_limit, records_in, refl, stored_bytes, sym, turned, type_of_variable, variable_of, vdr_max_rec, with_item, with_sign, with_variable, ℕ, ◌+◌, ◌-◌, ◌<◌, ◌==◌, ◌∙◌, ◌≡◌, ◌≢◌, ◌≤◌, ◌⊎◌}
+use Rattle.cdf_edits.proofs.Common.{Act, Bool, Good, Kind, Leaf, List, Option, Some, Variable, VariableShape, [], ap, arith, cases_lt, content, either, eq-eqb, extent, false, filled, image_limit, inl, inr, is_little, is_sparse, leaves_of, length, max_rec_at, nat_lt, nat_tests, ne_eqb, option_map, pad_record, plain_bytes, record_bytes, records_in, refl, stored_bytes, sym, turned, type_of_variable, variable_of, with_item, with_variable, ℕ, ◌-◌, ◌<◌, ◌==◌, ◌∙◌, ◌≡◌, ◌≢◌, ◌≤◌, ◌⊎◌}
 use Rattle.cdf_edits.proofs.Edits.Common.{block_behind, StandsAmong}
 use Rattle.cdf_edits.proofs.Edits.LeafPieces.{IsOneOf, place_in}
-use Rattle.cdf_edits.proofs.Edits.LeafRecords.{signed}
 use Rattle.cdf_edits.proofs.Edits.PlainLeaves.{leaves_ascend}
-use Rattle.cdf_edits.proofs.Edits.RecordsPut.{StoresPut, extent_last, filled_uncut, greater_is_first, greater_is_last, records_put}
+use Rattle.cdf_edits.proofs.Edits.RecordsPut.{StoresPut, filled_uncut, records_put}
 use Rattle.cdf_edits.proofs.Edits.RecordsWritten.{behind_kept}
 use Rattle.cdf_edits.proofs.Frame.VdrAlike.{type_alike}
 use Rattle.cdf_edits.proofs.Frame.VdrStays.{stays_alike, variable_stays}
 use Rattle.cdf_edits.specs.Commands.PutSteps.{PutsLeaf, Stage}
 use Rattle.cdf_edits.specs.Index.Blocks.{first_written}
-use Rattle.cdf_model.specs.RecordSteps.{greater, with_record}
+use Rattle.cdf_model.specs.RecordSteps.{with_record}
 use Rattle.cdf_puts.proofs.CoveringRanges.{some_or_none, written_from, written_upto}
-use Rattle.cdf_puts.proofs.DoneBytes.{last_of_extent}
 use Rattle.cdf_puts.proofs.GoesThen.{goes_written, later_size, stays}
 use Rattle.cdf_puts.proofs.PutBytes.{found_covering}
 use Rattle.cdf_puts.specs.Going.{GoesOn, found_in}
 use Rattle.cdf_puts.specs.SoFar.{MaxRecDone}
 use Rattle.cdf_put_steps.proofs.Along.{by_along, longer_along}
 use Rattle.cdf_put_steps.proofs.BlockKept.{plain_kept}
-use Rattle.cdf_put_steps.proofs.KeptAlong.{KeptSo, kept_first, kept_then, put_goes, small_record, so, writes}
+use Rattle.cdf_put_steps.proofs.KeptAlong.{KeptSo, kept_first, kept_then, put_goes, so, writes}
 use Rattle.cdf_put_steps.proofs.RecordPieces.{piece}
+use Rattle.cdf_put_steps.proofs.StepsDone.{extent_set, max_rec_set}
 use Rattle.cdf_put_steps.proofs.StepStored.{leaf_of, stored_beside, stored_by, stored_written}
 use Rattle.cdf_put_steps.specs.Along.{PutsAlong, at_start, put_in, stored_pad}
 use Rattle.std.proofs.Common.{if◌then◌else◌}
@@ -59,10 +58,6 @@ module _ {b : List ℕ} {kind : Kind} {before : List VariableShape} {own : Varia
       (kept_first n raw good at (omega (arith, short, longer_along along)), stored_first) along).1
 
 -- ---- and then MaxRec is raised
-
-max_rec_done : (b mid now : List ℕ) (kind : Kind) (own own' : VariableShape) (n : ℕ) → own'.vdr ≡ own.vdr → n ≤ record_number_limit → number mid own'.vdr vdr_max_rec ≡ number b own.vdr vdr_max_rec → MaxRecDone b mid now kind own own' n → max_rec_at now own.vdr ≡ last_number (greater (extent (max_rec_at b own.vdr)) (n + 1))
-max_rec_done b mid now kind own own' n vdr small same (inl x) = ap (max_rec_at now) (sym vdr) ∙ ap with_sign x.1.max_rec_is ∙ signed n small ∙ sym (ap last_number (greater_is_last (extent (max_rec_at b own.vdr)) n x.0))
-max_rec_done b mid now kind own own' n vdr small same (inr x) = ap (max_rec_at now) (sym vdr) ∙ ap (λ (y : List ℕ). max_rec_at y own'.vdr) x.1 ∙ ap with_sign same ∙ sym (last_of_extent (max_rec_at b own.vdr) n x.0) ∙ ap last_number (sym (greater_is_first (extent (max_rec_at b own.vdr)) n x.0))
 
 module _ {b now : List ℕ} {kind : Kind} {before : List VariableShape} {own : VariableShape} {after : List VariableShape} {n : ℕ} {raw : List ℕ} {to : Stage} {acts : List Act} (along : PutsAlong b kind before own after n raw to acts) (past : n < to.next) (done : MaxRecDone b to.image now kind own to.own n) (short : length to.image ≤ image_limit) (raw_long : length raw ≡ record_bytes b own.vdr) (pad_long : length (stored_pad b own) ≡ record_bytes b own.vdr) where
   abbrev v : Variable
@@ -113,14 +108,6 @@ module _ {b now : List ℕ} {kind : Kind} {before : List VariableShape} {own : V
   pub stored_same : (j : ℕ) → j < most → j ≢ n → stored_bytes now own.vdr size leaves j ≡ stored_bytes b own.vdr size olds j
   stored_same j lt ne = stored_still j ∙ stored_so.same j (elim (cases_lt n j) [ inl after ↦ inr (after, lt) | inr le ↦ inl (omega (arith, written_from v n, lt, ne, le)) ])
 
-  -- ---- MaxRec
-
-  last_max_rec : max_rec_at now own.vdr ≡ last_number (greater most (n + 1))
-  last_max_rec = max_rec_done b to.image now kind own to.own n put.vdr_is (small_record along past done short) kept.max_rec done
-
-  pub max_rec_is : extent (max_rec_at now own.vdr) ≡ greater most (n + 1)
-  max_rec_is = ap extent last_max_rec ∙ extent_last (greater most (n + 1))
-
   -- ---- the content
 
   abbrev turn : List ℕ → List ℕ
@@ -147,7 +134,7 @@ module _ {b now : List ℕ} {kind : Kind} {before : List VariableShape} {own : V
       as_long = ap (record_bytes now) (sym put.vdr_is) ∙ later_size along.good along.among put;
       ascend = leaves_ascend along.good along.among;
       ascend_now = leaves_ascend put.good put.among;
-      upto = max_rec_is;
+      upto = extent_set along past done short;
       stored = stored_bytes_is;
       padded = padded;
       kept = stored_same;
@@ -157,4 +144,4 @@ module _ {b now : List ℕ} {kind : Kind} {before : List VariableShape} {own : V
     records_are = records_put stores ∙ ap (with_item n bytes) (sym (filled_uncut v n along.uncut))
 
     pub put_content : content now ≡ with_variable (content b) (found_in b kind before own) (with_record v n bytes)
-    put_content = put.content_is ∙ ap (with_variable (content b) (found_in b kind before own)) (variable_stays put.file own to.own (stays along.good along.among put.descriptor) put.vdr_is ∙ (λ i. record v { max_rec = last_max_rec i; recs = records_are i }))
+    put_content = put.content_is ∙ ap (with_variable (content b) (found_in b kind before own)) (variable_stays put.file own to.own (stays along.good along.among put.descriptor) put.vdr_is ∙ (λ i. record v { max_rec = max_rec_set along past done short i; recs = records_are i }))

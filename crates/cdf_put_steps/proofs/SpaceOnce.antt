@@ -113,4 +113,4 @@ module _ {b : List ℕ} (h : HasShape b (shape b)) where
       let parts = map-append (λ (place : ℕ). (place, size_at b place)) (shape b).unused (used_records b) in
       let both : having j (sized b ((shape b).unused ++ used_records b)) (length b) ≡ having j (unused b (shape b)) (length b) + count j (sized b (used_records b)) =
       ap (λ (xs : List (ℕ × ℕ)). having j xs (length b)) parts ∙ having_both j (unused b (shape b)) (sized b (used_records b)) (length b) in
-      omega (arith, all, both)
+      subst (λ (n : ℕ). n ≤ 1) both all

@@ -1,7 +1,7 @@
 -- What a step keeps of the records of the variable: its blocks but for those that may change, and the record that says how it is packed.
-use Rattle.cdf_edits.proofs.Common.{Act, AllKeep, Allowance, Anything, Bool, Field, Found, Good, In, In-append_left, In-append_right, Keeps, Kind, Leaf, List, None, OneVariable, Only, Option, Owner, R, Range, Some, Stays, Unused, VariableShape, Z, [], allowance, ap, arith, cpr_type, cvvr_type, eq-eqb, false, if◌then◌else◌, inl, inr, is_a, is_a-type, refl, true, leaves_of, length, nodes_of, owned, owned_by, owned_by_attributes, owned_by_variables, range, range_at, shape, shapes_of, slice_get, subst, suc, sym, type_at, unused_records, variable_records, vdr_type, vdr_vxr_head, vdr_vxr_tail, vvr_type, vxr_type, zero, ℕ, ◌++◌, ◌+◌, ◌==◌, ◌∙◌, ◌∷◌, ◌≡◌, ◌⊎◌}
+use Rattle.cdf_edits.proofs.Common.{Act, AllKeep, Allowance, Anything, Bool, Field, Found, Good, In, In-append_left, In-append_right, Keeps, Kind, Leaf, List, None, OneVariable, Only, Option, Owner, R, Range, Some, Stays, Unused, VariableShape, Z, [], allowance, ap, arith, cpr_type, cvvr_type, eq-eqb, false, if◌then◌else◌, inl, inr, is_a, is_a-type, refl, true, leaves_of, length, nodes_of, owned, owned_by, owned_by_attributes, owned_by_variables, range, range_at, shape, shapes_of, slice_get, subst, suc, sym, type_at, unused_records, variable_records, vdr_type, vdr_vxr_head, vdr_vxr_tail, vvr_type, vxr_type, zero, ℕ, ◌++◌, ◌+◌, ◌==◌, ◌∙◌, ◌∷◌, ◌≡◌, ◌⊎◌, ne_eqb, cdr_type, gdr_type, HasShape, space_fields}
 use Rattle.cdf_edits.proofs.Commands.ChainsStay.{AllKeep-split}
-use Rattle.cdf_edits.proofs.Edits.Common.{Each-in, StandsAmong, fits, got-middle, places_of, same_as_itself}
+use Rattle.cdf_edits.proofs.Edits.Common.{Each-in, StandsAmong, fits, got-middle, places_of, same_as_itself, gdr_typed, sound}
 use Rattle.cdf_edits.proofs.Edits.LeafPieces.{IsOneOf, place_in}
 use Rattle.cdf_edits.proofs.Edits.VariableKept.{find_none}
 use Rattle.cdf_edits.specs.Commands.Allowances.{anything_if}
@@ -97,3 +97,16 @@ module _ (b now : List ℕ) (found : Found) (changes : Range → Bool) (acts : L
     -- of the descriptor where the index begins and ends may change
     pub vdr_unchanged : Stays b now own.vdr heads
     vdr_unchanged = subst (Keeps b now own.vdr) (of_own.descriptor_allowed found good at number_is heads block_may (may found.kind (length before)) allowed) (own_kept own.vdr (inl refl))
+
+    -- of the GDR where space is
+    not_cdr : ((shape b).gdr == 8) ≡ false
+    not_cdr = ne_eqb (shape b).gdr 8 (λ e. clash (sym (is_a-type b (shape b).records cdr_type 8 h.cdr_stands) ∙ ap (type_at b) (sym e) ∙ gdr_typed b (shape b) h))
+      where
+        h : HasShape b (shape b)
+        h = (sound good at).has_shape
+
+        clash : cdr_type ≡ gdr_type → ⊥
+        clash e = absurd (omega arith)
+
+    pub gdr_unchanged : Stays b now (shape b).gdr space_fields
+    gdr_unchanged = subst (λ (p : Bool). Keeps b now (shape b).gdr (if p then Only [] else Only space_fields)) not_cdr keeps.1.0

@@ -2,7 +2,7 @@
 
 ghost use Rattle.std.specs.Prelude.{◌≡◌, ◌<◌, ◌≤◌, ◌++◌, ℕ, List, [], length, false};
 ghost use Rattle.cdf_edits.specs.Commands.Allowances.{AllKeep};
-ghost use Rattle.cdf_edits.specs.Commands.PutSteps.{PutsLeaf, Stage};
+ghost use Rattle.cdf_edits.specs.Commands.PutSteps.{PutsBySteps, PutsLeaf, Stage};
 ghost use Rattle.cdf_edits.specs.Commands.Puts.{put_changes};
 ghost use Rattle.cdf_edits.specs.Edits.Standing.{StandsAmong};
 ghost use Rattle.cdf_edits.specs.Index.Blocks.{cuts_before_put};
@@ -35,11 +35,12 @@ pub fn put_goes_along()
     ensures leads { (b : List ℕ) (kind : Kind) (before : List VariableShape) (own : VariableShape) (after : List VariableShape) (n : ℕ) (raw : List ℕ) (mid to : Stage) (acts : List Act) → PutsAlong b kind before own after n raw mid acts → PutsLeaf (put_in b kind before own n raw) mid to → GoesOn mid.image to.image kind before mid.own to.own after to.acts → PutsAlong b kind before own after n raw to (acts ++ to.acts) }
 {}
 
-/// A put went past its record, and MaxRec was raised where that was due: the first image goes on to the last one, each record keeps what it has to, and the content has the record.
+/// A put went past its record, and MaxRec was raised where that was due: the first image goes on to the last one, each record keeps what it has to, the steps are those of `put-rec`, and the content has the record.
 pub fn put_is_done()
     ensures goes { (b now : List ℕ) (kind : Kind) (before : List VariableShape) (own : VariableShape) (after : List VariableShape) (n : ℕ) (raw : List ℕ) (to : Stage) (acts : List Act) → PutsAlong b kind before own after n raw to acts → n < to.next → MaxRecDone b to.image now kind own to.own n → length to.image ≤ image_limit → GoesOn b now kind before own to.own after acts }
     ensures follows { (b now : List ℕ) (kind : Kind) (before : List VariableShape) (own : VariableShape) (after : List VariableShape) (n : ℕ) (raw : List ℕ) (to : Stage) (acts : List Act) → PutsAlong b kind before own after n raw to acts → n < to.next → MaxRecDone b to.image now kind own to.own n → length to.image ≤ image_limit → ActsFollow b now acts }
     ensures keeps { (b now : List ℕ) (kind : Kind) (before : List VariableShape) (own : VariableShape) (after : List VariableShape) (n : ℕ) (raw : List ℕ) (to : Stage) (acts : List Act) → PutsAlong b kind before own after n raw to acts → n < to.next → MaxRecDone b to.image now kind own to.own n → length to.image ≤ image_limit → AllKeep b now (put_changes b (shape b) (found_in b kind before own) n) acts (owned b (shape b)) }
+    ensures steps { (b now : List ℕ) (kind : Kind) (before : List VariableShape) (own : VariableShape) (after : List VariableShape) (n : ℕ) (raw : List ℕ) (to : Stage) (acts : List Act) → PutsAlong b kind before own after n raw to acts → n < to.next → MaxRecDone b to.image now kind own to.own n → length to.image ≤ image_limit → length raw ≡ record_bytes b own.vdr → PutsBySteps b now (found_in b kind before own) n own acts }
     ensures content { (b now : List ℕ) (kind : Kind) (before : List VariableShape) (own : VariableShape) (after : List VariableShape) (n : ℕ) (raw : List ℕ) (to : Stage) (acts : List Act) → PutsAlong b kind before own after n raw to acts → n < to.next → MaxRecDone b to.image now kind own to.own n → length to.image ≤ image_limit
         → length raw ≡ record_bytes b own.vdr → length (stored_pad b own) ≡ record_bytes b own.vdr → (bytes : List ℕ) → turned (variable_of b own).type (is_little b) raw ≡ bytes → (extent (max_rec_at b own.vdr) < n → turned (variable_of b own).type (is_little b) (stored_pad b own) ≡ pad_record (variable_of b own))
         → content now ≡ with_variable (content b) (found_in b kind before own) (with_record (variable_of b own) n bytes) }

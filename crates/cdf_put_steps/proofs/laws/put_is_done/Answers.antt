@@ -1,5 +1,6 @@
 use Rattle.cdf_put_steps.proofs.KeptAlong as kept
 use Rattle.cdf_put_steps.proofs.PutContent as stored
+use Rattle.cdf_put_steps.proofs.StepsDone as steps
 use Rattle.cdf_put_steps.proofs.laws.put_is_done.Goals as goal
 
 pub returns-clause-goes : goal.returns-clause-goes
@@ -10,6 +11,9 @@ returns-clause-follows c b now kind before own after n raw to acts along past do
 
 pub returns-clause-keeps : goal.returns-clause-keeps
 returns-clause-keeps c b now kind before own after n raw to acts along past done short = kept.put_keeps along past done short
+
+pub returns-clause-steps : goal.returns-clause-steps
+returns-clause-steps c b now kind before own after n raw to acts along past done short raw_long = steps.by_steps along past done short raw_long
 
 pub returns-clause-content : goal.returns-clause-content
 returns-clause-content c b now kind before own after n raw to acts along past done short raw_long pad_long bytes raw_is pad_is = stored.put_content along past done short raw_long pad_long bytes raw_is pad_is
