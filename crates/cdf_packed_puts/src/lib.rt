@@ -2,5 +2,7 @@
 #![tactic(auto)]
 
 mod adding;
+mod rewriting;
 
 pub use adding::{Vacancy, add_packed};
+pub use rewriting::rewrite_leaf;
