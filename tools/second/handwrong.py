@@ -2,15 +2,17 @@
 
 Each is made by a wrong editor on a small file; the right image beside it has to be admitted.
 """
+from asking import why_refused
 from content import content
 from editor import apply
-from follows.follows import why_refused
-from follows.search import refused_whatever
 from handmade import Hand
 from image import Image
 from layout import Vxr, fresh_image
+from logged import again
 from model import Command as C
+from pagevalues import with_room
 from runwrong import made_by
+from search import refused_whatever
 from wrong import WRONG
 
 EDITORS = {cls.__name__: cls for cls in WRONG}
@@ -186,17 +188,17 @@ CASES = [
 def main():
     for text, name, start, c in CASES:
         image = image_of(start) if isinstance(start, list) else start
-        data_set = content(Image(image))
-        right, after, _ = apply(image, c)
-        admitted = why_refused(image, c, right.data, right.acts, data_set)
+        right, after, _ = apply(image, c, before=content(Image(image)))
+        right = again(image, c, right, after)
+        admitted = why_refused(image, c, right.data, right.acts, right.cuts)
         wrong = made_by(EDITORS[name], image, c, after)
         if wrong is None or wrong.data == right.data:
             print('NOT MADE', text)
             continue
-        why = refused_whatever(image, c, wrong.data, [wrong.acts], data_set)
+        why = refused_whatever(image, c, wrong.data, wrong.acts, wrong.cuts)
         print('refused' if why else 'ADMITTED', '|', text, '|', ', '.join(why[:2]),
-              f'| RIGHT ONE REFUSED {admitted}' if admitted else '')
+              f'| RIGHT ONE REFUSED {admitted}' if admitted else '', flush=True)
 
 
 if __name__ == '__main__':
-    main()
+    with_room(main)

@@ -6,9 +6,11 @@ import random
 import sys
 from collections import Counter
 
-from follows.follows import why_refused
+from asking import why_refused
 from image import Image
+from logged import again
 from model import READERS
+from pagevalues import with_room
 from runfollows import SORTS
 from selfcheck import run
 
@@ -38,6 +40,7 @@ def main():
         if c.kind in READERS:
             return
         touched = {at for act, at, size in edited.acts}
+        cuts = again(before, c, edited, after).cuts
         for _ in range(flips):
             at = source.randrange(8, len(edited.data))
             if touched and source.random() < 0.6:
@@ -46,7 +49,7 @@ def main():
             image = bytearray(edited.data)
             image[at] ^= 1 << source.randrange(8)
             tried[c.kind] += 1
-            if not why_refused(before, c, image, edited.acts, data_set):
+            if not why_refused(before, c, image, edited.acts, cuts):
                 key = c.kind, where(before, edited, at)
                 admitted[key] += 1
                 examples.setdefault(key, (len(tried), at, c, edited.acts))
@@ -58,4 +61,4 @@ def main():
 
 
 if __name__ == '__main__':
-    main()
+    with_room(main)

@@ -1,8 +1,10 @@
-"""Runs the port of Follows on what the editor makes: python3 runfollows.py FILES COMMANDS [SEED] [SORT]."""
+"""Asks the pages whether what the editor makes follows: python3 runfollows.py FILES COMMANDS [SEED] [SORT]."""
 import sys
 from collections import Counter
 
-from follows.follows import why_refused
+from asking import why_refused
+from logged import again
+from pagevalues import with_room
 from scripts import CUTS, KINDS
 from selfcheck import run
 
@@ -30,7 +32,8 @@ def main():
             kind = c.kind + ' under a rule' if is_under_rule(c, data_set) else c.kind
             is_new = sort in ('wide', 'twice') or (seed % 2 and sort not in ('sparse', 'setup'))
             tried[kind, 'new' if is_new else 'foreign'] += 1
-            why = why_refused(before, c, edited.data, edited.acts, data_set)
+            cuts = again(before, c, edited, after).cuts
+            why = why_refused(before, c, edited.data, edited.acts, cuts)
             if why:
                 key = (kind, tuple(sorted(set(why)))[:3])
                 failed[key] += 1
@@ -44,4 +47,4 @@ def main():
 
 
 if __name__ == '__main__':
-    main()
+    with_room(main)

@@ -10,11 +10,13 @@ from collections import Counter
 
 from content import content
 from editor import apply
-from follows.search import refused_whatever
 from image import Image
 from layout import VXR, Vxr, node_size
+from logged import FAILS, logged
 from model import READERS
+from pagevalues import with_room
 from runfollows import SORTS
+from search import refused_whatever
 from selfcheck import run
 from validator import broken, sealed
 from wrong import WRONG
@@ -24,8 +26,8 @@ MOST = 12
 
 
 def made_by(cls, before, c, after):
-    """The image and acts of a wrong editor, or None where it fails or makes no good image."""
-    image = cls(before)
+    """The image and acts of a wrong editor, with its log, or None where it fails or makes no good image."""
+    image = logged(cls)(before)
     image.c = c
     do = getattr(image, 'do_' + c.kind.replace('-', '_'))
     try:
@@ -33,7 +35,7 @@ def made_by(cls, before, c, after):
         image.finish(c)
         if broken(sealed(image.data)) or content(image) != after:
             return None
-    except (AssertionError, KeyError, IndexError, ValueError, OverflowError, RecursionError):
+    except FAILS:
         return None
     return image
 
@@ -75,7 +77,7 @@ def main():
             if image is None or image.data in (right, edited.data):
                 continue
             tried[cls.__name__, c.kind] += 1
-            why = refused_whatever(before, c, image.data, [image.acts], data_set)
+            why = refused_whatever(before, c, image.data, image.acts, image.cuts)
             if why:
                 reasons.setdefault(cls.__name__, Counter())[why[0]] += 1
                 continue
@@ -93,4 +95,4 @@ def main():
 
 
 if __name__ == '__main__':
-    main()
+    with_room(main)
