@@ -7,7 +7,8 @@ pub use Rattle.cdf_edits.specs.Commands.Does.{Does}
 pub use Rattle.cdf_edits.specs.Commands.Entries.{DeletesEntry, PutsEntry}
 pub use Rattle.cdf_edits.specs.Commands.EntryChains.{GreatestIs, share_chain}
 pub use Rattle.cdf_edits.specs.Commands.Keeps.{allowances}
-pub use Rattle.cdf_edits.specs.Commands.Puts.{CutsFirst, FreesFirst, PutsIndex, PutsLeaves, PutsRecord, TakesFirst, UnwrittenStay, is_written, max_rec_touches, written_in}
+pub use Rattle.cdf_edits.specs.Commands.Puts.{CutsFirst, FreesFirst, PutsIndex, PutsLeaves, TakesFirst, UnwrittenStay, is_written, max_rec_touches, written_in}
+pub use Rattle.cdf_edits.specs.Commands.PutSteps.{Puts}
 pub use Rattle.cdf_edits.specs.Commands.Reindex.{FullFromLeft, IsPyramid, MakesIndex, levels_up}
 unfoldable pub use Rattle.cdf_edits.specs.Commands.Reindex.{AreTight, EntriesTight, nodes_at, nodes_below}
 pub use Rattle.cdf_edits.specs.Commands.Room.{room, room_in}

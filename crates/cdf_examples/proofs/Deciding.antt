@@ -188,15 +188,19 @@ node_by b now before acts vxr =
     all_below (λ i. nat_lt i (used_count now vxr) || entry_by b now vxr i (was_unused b before acts vxr i)) (room_at now vxr)
     && (is_taken_at acts vxr || nat_le (size_at b vxr) (28 + 16 * room_at now vxr))
 
-unused_if : (b now : List ℕ) (through : List Nodes) (before : List ℕ) (acts : List Act) (vxr : ℕ) → all_below (λ i. nat_lt i (used_count now vxr) || entry_by b now vxr i (was_unused b before acts vxr i)) (room_at now vxr) ≡ true → UnusedEntries b now through before acts vxr
-unused_if b now through before acts vxr e i from upto =
-    inl (entry_if b now vxr i (was_unused b before acts vxr i) (past (nat_lt i (used_count now vxr)) refl (below (λ i. nat_lt i (used_count now vxr) || entry_by b now vxr i (was_unused b before acts vxr i)) (room_at now vxr) e i upto)))
+pub entries_if : (b now : List ℕ) (before : List ℕ) (acts : List Act) (vxr : ℕ) → all_below (λ i. nat_lt i (used_count now vxr) || entry_by b now vxr i (was_unused b before acts vxr i)) (room_at now vxr) ≡ true
+    → (i : ℕ) → used_count now vxr ≤ i → i < room_at now vxr → EntryIs b now vxr i (was_unused b before acts vxr i)
+entries_if b now before acts vxr e i from upto =
+    entry_if b now vxr i (was_unused b before acts vxr i) (past (nat_lt i (used_count now vxr)) refl (below (λ i. nat_lt i (used_count now vxr) || entry_by b now vxr i (was_unused b before acts vxr i)) (room_at now vxr) e i upto))
   where
     past : (p : Bool) → nat_lt i (used_count now vxr) ≡ p → (p || entry_by b now vxr i (was_unused b before acts vxr i)) ≡ true → entry_by b now vxr i (was_unused b before acts vxr i) ≡ true
     past true is e = let low : i < used_count now vxr = leb-true (suc i) (used_count now vxr) is in absurd (omega (arith, low, from))
     past false is e = e
 
-spare_if : (b now : List ℕ) (acts : List Act) (vxr : ℕ) → (is_taken_at acts vxr || nat_le (size_at b vxr) (28 + 16 * room_at now vxr)) ≡ true → NodeSpareStays b now acts vxr
+unused_if : (b now : List ℕ) (through : List Nodes) (before : List ℕ) (acts : List Act) (vxr : ℕ) → all_below (λ i. nat_lt i (used_count now vxr) || entry_by b now vxr i (was_unused b before acts vxr i)) (room_at now vxr) ≡ true → UnusedEntries b now through before acts vxr
+unused_if b now through before acts vxr e i from upto = inl (entries_if b now before acts vxr e i from upto)
+
+pub spare_if : (b now : List ℕ) (acts : List Act) (vxr : ℕ) → (is_taken_at acts vxr || nat_le (size_at b vxr) (28 + 16 * room_at now vxr)) ≡ true → NodeSpareStays b now acts vxr
 spare_if b now acts vxr e free = choose (is_taken_at acts vxr) e free
   where
     choose : (p : Bool) → (p || nat_le (size_at b vxr) (28 + 16 * room_at now vxr)) ≡ true → p ≡ false → Same b now (vxr + (28 + 16 * room_at now vxr)) (vxr + size_at b vxr)

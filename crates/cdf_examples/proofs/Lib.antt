@@ -4,6 +4,7 @@ pub mod Digests
 pub mod BytesKept
 pub mod Refusing
 pub mod PutLemmas
+pub mod Stepping
 pub mod CutLemmas
 pub mod Walking
 pub mod Deciding

@@ -1,5 +1,5 @@
 -- What is past MaxRec was cut, a record was put, and MaxRec was raised: the image follows `put-rec`, or `put-val`.
-use Rattle.cdf_puts.proofs.Common.{Act, AllKeep, Allowances, DataSet, Found, GoesOn, Kind, List, None, Option, PutsRecord, Some, Variable, VariableShape, ap, arith, content, extent, false, is_little, max_rec_at, owned, pad_record, put_changes, put_room, refl, room, room_of_variable, same_Some, shape, stays_all, subst, sym, taken_bytes, true≢false, turned, type_of_variable, variable_named, variable_of, with_record, with_variable, found_in, ℕ, ◌++◌, ◌<◌, ◌∙◌, ◌≡◌, ◌≤◌}
+use Rattle.cdf_puts.proofs.Common.{Act, AllKeep, Allowances, DataSet, Found, GoesOn, Kind, List, None, Option, Puts, Some, Variable, VariableShape, ap, arith, content, extent, false, is_little, max_rec_at, owned, pad_record, put_changes, put_room, refl, room, room_of_variable, same_Some, shape, stays_all, subst, sym, taken_bytes, true≢false, turned, type_of_variable, variable_named, variable_of, with_record, with_variable, found_in, ℕ, ◌++◌, ◌<◌, ◌∙◌, ◌≡◌, ◌≤◌}
 use Rattle.std.specs.Prelude.{map}
 use Rattle.std.specs.List.{sum}
 use Rattle.cdf_edits.proofs.Common.{ByStep, Command, Does, Follows, Go, allowances, only_reads, step}
@@ -38,12 +38,12 @@ module _ {b mid now last : List ℕ} {kind : Kind} {before : List VariableShape}
   as_much = ap (λ (takes : List (ℕ × ℕ)). sum (map (λ take. take.1) takes)) (taken_is t)
 
   module _ (pad_stored : extent (max_rec_at b own.vdr) ≤ r → pad ≡ turned (type_of_variable b own.vdr) (is_little b) (pad_record (variable_of b own))) (name : List ℕ) (named : variable_named (content b) name ≡ Some (found_in b kind before own)) where
-    puts_named : OfVariable b last name (λ found v v'. PutsRecord b last found.kind found.variable r v v' all_acts)
+    puts_named : OfVariable b last name (λ found v v'. Puts b last found r v v' all_acts found.variable.rle)
     puts_named found' x x' is =
         let q : found ≡ found' = same_Some found found' (sym named ∙ is.named) in
         let was : own ≡ x = same_Some own x (sym (own_there t.good t.among) ∙ (rw (← q) at is.before)) in
         let now_is : own' ≡ x' = same_Some own' x' (sym (own_there goes.good goes.among) ∙ (rw (← q) at is.after)) in
-        rw (← q, ← was, ← now_is) (record { index = index_then t goes; bytes = bytes_then t goes pad_stored; r_max_rec = last_r_max_rec t })
+        rw (← q, ← was, ← now_is) (subst (Puts b last found r own own' all_acts) (sym t.cut.loose) (record { index = index_then t goes; bytes = bytes_then t goes pad_stored; r_max_rec = last_r_max_rec t }))
 
     may_be : (elim (variable_named (content b) name) as (λ x. Allowances) [ None ↦ stays_all | Some found ↦ put_changes b (shape b) found r ]) ≡ put_changes b (shape b) found r
     may_be = ap (λ (o : Option Found). elim o as (λ x. Allowances) [ None ↦ stays_all | Some found ↦ put_changes b (shape b) found r ]) named

@@ -22,7 +22,8 @@ pub use Rattle.cdf_edits.proofs.Frame.VdrAlike.{record_alike, type_alike}
 pub use Rattle.cdf_edits.proofs.Frame.VdrStays.{VdrStays, stays_alike, variable_stays}
 pub use Rattle.cdf_edits.specs.Commands.Allowances.{anything_if}
 pub use Rattle.cdf_edits.specs.Commands.GreatestRecord.{RMaxRecFollows, greatest_r_max_rec}
-pub use Rattle.cdf_edits.specs.Commands.Puts.{CutsFirst, HoldsPads, PutsBytes, PutsIndex, PutsLeaves, PutsRecord, StaysUnwritten, TakesNode, UnwrittenStay, is_changed, is_written, new_ranges, stays_in_place, stored_in, was_leaf, written_in}
+pub use Rattle.cdf_edits.specs.Commands.Puts.{CutsFirst, HoldsPads, PutsBytes, PutsIndex, PutsLeaves, StaysUnwritten, TakesNode, UnwrittenStay, is_changed, is_written, new_ranges, stays_in_place, stored_in, was_leaf, written_in}
+pub use Rattle.cdf_edits.specs.Commands.PutSteps.{Puts}
 pub use Rattle.cdf_edits.specs.Commands.Room.{blocks_room, is_rewritten, packed_room, put_room, quotient_up, room_of_variable, uncovered}
 unfoldable pub use Rattle.cdf_edits.specs.Commands.Room.{entries_below, entries_in, widest, widest_below}
 pub use Rattle.cdf_edits.specs.Index.Blocks.{block_count, covered, cut_open, first_written, firsts_before_put, new_range, ranges_after_put, ranges_before_put, ranges_of, record_length}

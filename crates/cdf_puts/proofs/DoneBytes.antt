@@ -1,5 +1,5 @@
 -- All records are put: the index, what was taken for it and the bytes of the blocks are as the command says, and what is stored as each record. The image follows the command.
-use Rattle.cdf_puts.proofs.Common.{UnwrittenStay, stays_in_place, found_in, ◌≢◌, ListedStay, LooseStay, NewBlock, OldBlock, size_at, Act, AllKeep, Allowance, Allowances, Ascending, Beside, BlockFollows, BlocksSoFar, Changed, CutsFirst, DataSet, Found, GoesOn, HoldsPads, In, In-append, IsOneOf, Keeps, Kind, Leaf, List, MaxRecDone, NewBlock, Nodes, None, OneVariable, Only, Option, Outside, Outside-append, PlainLeaf, PutsBytes, PutsIndex, PutsLeaves, PutsRecord, RMaxRecFollows, Range, SoFar, Some, SpareIs, Unused, Variable, VariableShape, WritesRecords, [], anything_if, ap, append-nil, arith, behind_in, behind_kept, block_behind, block_end, both, bytes_eq, bytes_eq-same, cases_lt, content, count_is, covers, drop, drop-drop, drop_all, each_of, eq-eqb, eq_of, eqb-true, extent, false, false-is_in, filled, filter, filter-says, find, find_covering, first_written, greater, inl, inr, is_changed, is_little, is_rewritten, is_taken_at, is_written, keep_all, keep_attributes, keep_file, keep_kinds, keep_places, keep_variable_parts, keep_variables, keeps_stood, last_number, leaf_at, leaves_ascend, leaves_of, length, length-take, list_any, map, max, max_rec_at, max_rec_touches, min, nat_tests, ne_eqb, negsuc, nodes_of, option_map, other_kind, owned, pad_record, past, place_in, places_of, plain_bytes, plain_piece, pos, put_changes, put_fields, put_room, r_max_rec, r_max_rec_of_z, range, range_at, ranges_before_put, ranges_of, record_bytes, record_number_limit, record_of, record_place, records_in, records_of_leaf, refl, repeat, room, room_of_variable, same_Some, same_as_itself, same_of_bytes_eq, shape, shapes_of, shared, signed, sound, space_before, stays_alike, stays_all, stored_bytes, stored_in, subst, suc, sym, take, take-append-drop, times_le, top_chain, top_stays, touch, transport, true, true-is_in, true≢false, turned, type_alike, type_at, type_of_variable, uir_type, uncovered, unused_allowance, unused_in, unused_records, variable_named, variable_of, variable_records, variable_stays, vvr_place, was_leaf, with_record, with_sign, with_variable, written_in, zero, ℕ, ℤ, ◌*◌, ◌++◌, ◌+◌, ◌-◌, ◌<◌, ◌==◌, ◌∙◌, ◌∷◌, ◌≡◌, ◌≤◌, ◌⊎◌, is_sparse, either, cuts_before_put, is_compressed}
+use Rattle.cdf_puts.proofs.Common.{UnwrittenStay, stays_in_place, found_in, ◌≢◌, ListedStay, LooseStay, NewBlock, OldBlock, size_at, Act, AllKeep, Allowance, Allowances, Ascending, Beside, BlockFollows, BlocksSoFar, Changed, CutsFirst, DataSet, Found, GoesOn, HoldsPads, In, In-append, IsOneOf, Keeps, Kind, Leaf, List, MaxRecDone, NewBlock, Nodes, None, OneVariable, Only, Option, Outside, Outside-append, PlainLeaf, Puts, PutsBytes, PutsIndex, PutsLeaves, RMaxRecFollows, Range, SoFar, Some, SpareIs, Unused, Variable, VariableShape, WritesRecords, [], anything_if, ap, append-nil, arith, behind_in, behind_kept, block_behind, block_end, both, bytes_eq, bytes_eq-same, cases_lt, content, count_is, covers, drop, drop-drop, drop_all, each_of, eq-eqb, eq_of, eqb-true, extent, false, false-is_in, filled, filter, filter-says, find, find_covering, first_written, greater, inl, inr, is_changed, is_little, is_rewritten, is_taken_at, is_written, keep_all, keep_attributes, keep_file, keep_kinds, keep_places, keep_variable_parts, keep_variables, keeps_stood, last_number, leaf_at, leaves_ascend, leaves_of, length, length-take, list_any, map, max, max_rec_at, max_rec_touches, min, nat_tests, ne_eqb, negsuc, nodes_of, option_map, other_kind, owned, pad_record, past, place_in, places_of, plain_bytes, plain_piece, pos, put_changes, put_fields, put_room, r_max_rec, r_max_rec_of_z, range, range_at, ranges_before_put, ranges_of, record_bytes, record_number_limit, record_of, record_place, records_in, records_of_leaf, refl, repeat, room, room_of_variable, same_Some, same_as_itself, same_of_bytes_eq, shape, shapes_of, shared, signed, sound, space_before, stays_alike, stays_all, stored_bytes, stored_in, subst, suc, sym, take, take-append-drop, times_le, top_chain, top_stays, touch, transport, true, true-is_in, true≢false, turned, type_alike, type_at, type_of_variable, uir_type, uncovered, unused_allowance, unused_in, unused_records, variable_named, variable_of, variable_records, variable_stays, vvr_place, was_leaf, with_record, with_sign, with_variable, written_in, zero, ℕ, ℤ, ◌*◌, ◌++◌, ◌+◌, ◌-◌, ◌<◌, ◌==◌, ◌∙◌, ◌∷◌, ◌≡◌, ◌≤◌, ◌⊎◌, is_sparse, either, cuts_before_put, is_compressed}
 use Rattle.cdf_edits.proofs.Common.{ByStep, Command, Does, Follows, Go, allowances, only_reads, step, with_item}
 use Rattle.cdf_edits.proofs.Edits.RecordsPut.{StoresPut, extent_last, filled_uncut, greater_is_first, greater_is_last, records_put}
 use Rattle.cdf_puts.proofs.PutAlone.{StoresAlone, filled_ruled, none_past, records_put_alone}
@@ -299,12 +299,12 @@ module _ {b now last : List ℕ} {kind : Kind} {before : List VariableShape} {ow
     -- ---- of the variable that has a name, where nothing was cut before the put
 
     module _ (uncut : cuts_before_put v r ≡ false) (name : List ℕ) (named : variable_named (content b) name ≡ Some found) where
-      puts_named : OfVariable b last name (λ found v v'. PutsRecord b last found.kind found.variable r v v' acts)
+      puts_named : OfVariable b last name (λ found v v'. Puts b last found r v v' acts found.variable.rle)
       puts_named found' x x' is =
           let q : found ≡ found' = same_Some found found' (sym named ∙ is.named) in
           let was : own ≡ x = same_Some own x (sym (own_there so.start.good so.start.among) ∙ (rw (← q) at is.before)) in
           let now_is : own' ≡ x' = same_Some own' x' (sym (own_there put.good put.among) ∙ (rw (← q) at is.after)) in
-          rw (← q, ← was, ← now_is) (record { index = index_done uncut; bytes = bytes_done; r_max_rec = last_r_max_rec })
+          rw (← q, ← was, ← now_is) (subst (Puts b last found r own own' acts) (sym so.start.loose) (record { index = index_done uncut; bytes = bytes_done; r_max_rec = last_r_max_rec }))
 
       module _ (bytes : List ℕ) (raw_is : turned (type_of_variable b own.vdr) (is_little b) raw ≡ bytes) (pad_is : extent (max_rec_at b own.vdr) < r → turned (type_of_variable b own.vdr) (is_little b) pad ≡ pad_record v) where
         follows_by : (c : Command) → only_reads c ≡ false → step (content b) c ≡ ByStep (Go (with_variable (content b) found (with_record v r bytes)) replies.Plain) → room b c ≡ put_room v own.index r → allowances b (content b) (shape b) c ≡ put_changes b (shape b) found r → Does b c last acts → Follows b c last
@@ -317,7 +317,7 @@ module _ {b now last : List ℕ} {kind : Kind} {before : List VariableShape} {ow
               within = omega (arith, longer_by b last acts put.follow so.takes, so.covers.fits, room_is);
               reads = λ e. absurd (true≢false (sym e ∙ changes));
               acts = acts;
-              takes_within = rw room_is so.covers.fits;
+              takes_within = omega (arith, so.covers.fits, room_is);
               acts_follow = put.follow;
               keeps = subst (λ (a : Allowances). AllKeep b last a acts (owned b (shape b))) (sym may) keeps;
               does = does;

@@ -11,7 +11,7 @@ use Rattle.cdf_edits.specs.Index.Blocks.{is_sparse}
 use Rattle.cdf_edits.specs.Commands.Entries.{PutsEntry, DeletesEntry}
 use Rattle.cdf_edits.specs.Commands.Named.{OfAttribute, OfVariable}
 use Rattle.cdf_edits.specs.Commands.Setup.{SetsUp, SetsChecksum}
-use Rattle.cdf_edits.specs.Commands.Puts.{PutsRecord}
+use Rattle.cdf_edits.specs.Commands.PutSteps.{Puts}
 use Rattle.cdf_edits.specs.Commands.Reindex.{MakesIndex}
 use Rattle.cdf_edits.specs.Commands.Variables.{MakesVariable, RenamesVariable, SetsPad, DeletesNamed}
 
@@ -27,8 +27,8 @@ Does b (commands.ZVar name t elems vary dims varys) now acts = MakesVariable b n
 Does b (commands.RenameVar from to) now acts = OfVariable b now from (λ found v v'. RenamesVariable now to v' acts)
 Does b (commands.DelVar name) now acts = DeletesNamed b now name acts
 Does b (commands.SetPad var words) now acts = OfVariable b now var (λ found v v'. SetsPad b now v.vdr v'.vdr acts)
-Does b (commands.PutRec var rec words) now acts = OfVariable b now var (λ found v v'. PutsRecord b now found.kind found.variable rec v v' acts)
-Does b (commands.PutVal var rec index words) now acts = OfVariable b now var (λ found v v'. PutsRecord b now found.kind found.variable rec v v' acts)
+Does b (commands.PutRec var rec words) now acts = OfVariable b now var (λ found v v'. Puts b now found rec v v' acts found.variable.rle)
+Does b (commands.PutVal var rec index words) now acts = OfVariable b now var (λ found v v'. Puts b now found rec v v' acts found.variable.rle)
 Does b (commands.DelRecs var first last) now acts = OfVariable b now var (λ found v v'. Deletes b now found first last v v' acts (is_sparse found.variable.sparse))
 Does b (commands.SetSparse var rule) now acts = OfVariable b now var (λ found v v'. SetsSparse b now found rule v v' acts)
 Does b (commands.SetCompress var rle) now acts = OfVariable b now var (λ found v v'. SetsCompress b now rle v v' acts)

@@ -9,7 +9,7 @@ use Rattle.cdf_model.specs.Names.{Found}
 use Rattle.cdf_model.specs.Reading.{pad_record}
 use Rattle.cdf_edits.specs.Commands.Allowances.{Allowances, AllKeep, Anything, Only, FreedStay, no_fields, stays_all, stays_own, space_fields, anything_if, of_variable, shapes_of}
 use Rattle.cdf_edits.specs.Commands.GreatestRecord.{RMaxRecFollows}
-use Rattle.cdf_edits.specs.Commands.Puts.{CutsFirst, past_max_rec, max_rec_touches}
+use Rattle.cdf_edits.specs.Commands.Puts.{CutsFirst, PutsRecord, past_max_rec, max_rec_touches}
 use Rattle.cdf_edits.specs.Frame.Changed.{Changed}
 use Rattle.cdf_edits.specs.Index.Blocks.{Range, range, covers, record_length, firsts_of, new_range, first_written, cuts_before_put}
 use Rattle.cdf_edits.specs.Index.Cut.{IsPart, is_whole}
@@ -148,3 +148,8 @@ pub record PutsBySteps (b now : List ℕ) (found : Found) (n : ℕ) (before : Va
   pub as_long : length now ≡ length last.image
   pub max_rec_is : extent (max_rec_at now last.own.vdr) ≡ max (extent found.variable.max_rec) (n + 1)
   pub r_max_rec : RMaxRecFollows b now
+
+-- A record is put: step by step where blocks are packed.
+abbrev pub Puts : List ℕ → List ℕ → Found → ℕ → VariableShape → VariableShape → List Act → Bool → Type 0
+Puts b now found n before after acts true = PutsBySteps b now found n before acts
+Puts b now found n before after acts false = PutsRecord b now found.kind found.variable n before after acts

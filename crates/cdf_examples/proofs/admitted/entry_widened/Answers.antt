@@ -1,4 +1,4 @@
-use Rattle.cdf_examples.proofs.Common.{ActsFollow, AllKeep, Does, PutsRecord, Took, VariableShape, [], allowances, arith, block, chain_on, codes, content, cover, cut_entries, cut_nodes, digits, entries_below, entries_in, entries_on, entries_outline, entry_firsts, entry_leaves, false, first_written, firsts_of, found_z, inl, leaves_of, levels_on, lower, lower_nodes, new_room, new_room_below, no_entry, nodes_above, nodes_of, nodes_on, nodes_rows, one_node, outline, owned, put_t, record_length, records_data, records_index, refl, run_script, shape, sized_nodes, sized_nodes_below, stored_bytes, t_shape, tiles_from, two_levels_file, used_rows, widened_file, widest, widest_below, with_leaf, with_lower, ◌<◌, ◌∷◌, ◌≡◌, ◌⊎◌}
+use Rattle.cdf_examples.proofs.Common.{ActsFollow, AllKeep, Does, Puts, Took, VariableShape, [], allowances, arith, block, chain_on, codes, content, cover, cut_entries, cut_nodes, digits, entries_below, entries_in, entries_on, entries_outline, entry_firsts, entry_leaves, false, first_written, firsts_of, found_z, inl, leaves_of, levels_on, lower, lower_nodes, new_room, new_room_below, no_entry, nodes_above, nodes_of, nodes_on, nodes_rows, one_node, outline, owned, put_t, record_length, records_data, records_index, refl, run_script, shape, sized_nodes, sized_nodes_below, stored_bytes, t_shape, tiles_from, two_levels_file, used_rows, widened_file, widest, widest_below, with_leaf, with_lower, ◌<◌, ◌∷◌, ◌≡◌, ◌⊎◌}
 use Rattle.cdf_examples.proofs.Tests.{keeps_rules}
 use Rattle.cdf_examples.proofs.Deciding.{acts_follow_if, all_keep_if}
 use Rattle.cdf_examples.proofs.Deciding.{of_variable, nodes_freed_if, nodes_if}
@@ -15,7 +15,7 @@ keep = all_keep_if two_levels_file widened_file (allowances two_levels_file (con
 
 does : Does two_levels_file (put_t 4 (codes "5")) widened_file (Took 1056 28 ∷ [])
 unfolding two_levels_file widened_file shape content tiles_from chain_on nodes_of lower_nodes leaves_of entry_leaves entries_on nodes_on levels_on entries_in entries_below widest widest_below nodes_above firsts_of entry_firsts cover new_room with_leaf new_room_below with_lower cut_nodes cut_entries outline entries_outline sized_nodes sized_nodes_below
-does = of_variable two_levels_file widened_file (codes "T") (λ found v v'. PutsRecord two_levels_file widened_file found.kind found.variable 4 v v' (Took 1056 28 ∷ [])) (found_z records_data) before after refl refl refl (record {
+does = of_variable two_levels_file widened_file (codes "T") (λ found v v'. Puts two_levels_file widened_file found 4 v v' (Took 1056 28 ∷ []) found.variable.rle) (found_z records_data) before after refl refl refl (record {
   index = record {
     ranges = refl;
     middle = before.index;

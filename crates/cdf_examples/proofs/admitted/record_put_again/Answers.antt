@@ -1,4 +1,4 @@
-use Rattle.cdf_examples.proofs.Common.{ActsFollow, AllKeep, Does, PutsRecord, VariableShape, [], allowances, arith, chain_on, codes, content, cover, cut_entries, cut_nodes, digits, entries_below, entries_in, entries_on, entries_outline, entry_firsts, entry_leaves, first_put_file, first_written, firsts_of, found_z, high_first, inl, inr, leaves_of, levels_on, lower_nodes, max_rec_touches, new_room, new_room_below, nodes_above, nodes_of, nodes_on, nodes_rows, outline, owned, pos, put_again_file, put_t, record_length, records_index, refl, run_script, shape, sized_nodes, sized_nodes_below, stored_bytes, t_data, t_shape, tiles_from, used_rows, widest, widest_below, with_leaf, with_lower, written_in, ◌++◌, ◌<◌, ◌∷◌, ◌≡◌, ◌⊎◌}
+use Rattle.cdf_examples.proofs.Common.{ActsFollow, AllKeep, Does, Puts, VariableShape, [], allowances, arith, chain_on, codes, content, cover, cut_entries, cut_nodes, digits, entries_below, entries_in, entries_on, entries_outline, entry_firsts, entry_leaves, first_put_file, first_written, firsts_of, found_z, high_first, inl, inr, leaves_of, levels_on, lower_nodes, max_rec_touches, new_room, new_room_below, nodes_above, nodes_of, nodes_on, nodes_rows, outline, owned, pos, put_again_file, put_t, record_length, records_index, refl, run_script, shape, sized_nodes, sized_nodes_below, stored_bytes, t_data, t_shape, tiles_from, used_rows, widest, widest_below, with_leaf, with_lower, written_in, ◌++◌, ◌<◌, ◌∷◌, ◌≡◌, ◌⊎◌}
 use Rattle.cdf_examples.proofs.Tests.{keeps_rules}
 use Rattle.cdf_examples.proofs.Deciding.{acts_follow_if, all_keep_if}
 use Rattle.cdf_examples.proofs.Deciding.{of_variable, nodes_freed_if, nodes_if}
@@ -17,7 +17,7 @@ keep = all_keep_if first_put_file put_again_file (allowances first_put_file (con
 
 does : Does first_put_file (put_t 0 (codes "8")) put_again_file ([])
 unfolding first_put_file put_again_file shape content tiles_from chain_on nodes_of lower_nodes leaves_of entry_leaves entries_on nodes_on levels_on entries_in entries_below widest widest_below nodes_above firsts_of entry_firsts cover new_room with_leaf new_room_below with_lower cut_nodes cut_entries outline entries_outline sized_nodes sized_nodes_below
-does = of_variable first_put_file put_again_file (codes "T") (λ found v v'. PutsRecord first_put_file put_again_file found.kind found.variable 0 v v' ([])) (found_z (t_data (pos 0) ((0, high_first 7) ∷ []))) before after refl refl refl (record {
+does = of_variable first_put_file put_again_file (codes "T") (λ found v v'. Puts first_put_file put_again_file found 0 v v' ([]) found.variable.rle) (found_z (t_data (pos 0) ((0, high_first 7) ∷ []))) before after refl refl refl (record {
   index = record {
     ranges = refl;
     middle = before.index;
