@@ -16,3 +16,5 @@ pub mod PutRules
 pub mod RaisedGoes
 pub mod SoFarStarts
 pub mod PutSpot
+pub mod PlacedAnew
+pub mod SharedRoom

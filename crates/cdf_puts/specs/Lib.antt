@@ -6,3 +6,4 @@ pub mod SoFar
 pub mod Steps
 pub mod Starts
 pub mod TidyIndex
+pub mod SharedRoom

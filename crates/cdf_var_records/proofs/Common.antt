@@ -34,6 +34,8 @@ pub use Rattle.cdf_values.proofs.TurnedLemmas.{size_stays}
 pub use Rattle.cdf_values.proofs.ValueLengths.{size_some, whole_elements}
 pub use Rattle.cdf_var_records.specs.Descriptors.{HasElements, IsPlace, IsVdr}
 pub use Rattle.cdf_var_records.specs.Records.{IsForm, IsRecordShape, leaf_in, variable_at}
+pub use Rattle.cdf_puts.specs.SharedRoom.{shared_room}
+pub use Rattle.cdf_var_records.specs.PackedRoom.{IsBlockRoom}
 pub use Rattle.cdf_var_records.specs.Room.{IsStretch, covered_before}
 pub use Rattle.cdf_var_records.specs.declared.form.Form.{Form}
 pub use Rattle.cdf_var_records.specs.declared.pad_place.PadPlace.{PadPlace}

@@ -8,6 +8,7 @@ pub mod LeafItems
 pub mod PreviousItem
 pub mod PreviousRecord
 pub mod NextRecord
+pub mod PackedRoomCount
 pub mod PutRoomNeeded
 pub mod RecordForms
 pub mod RecordReading

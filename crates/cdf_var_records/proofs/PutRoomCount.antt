@@ -1,6 +1,7 @@
 -- How many records from a first on have a block, counted from stretch to stretch.
 use Rattle.cdf_var_records.proofs.Common.{Ascending, Entries, IsStretch, List, Nodes, None, NoneBegins, Range, Some, Stretch, [], arith, block, covered_before, entry_firsts, entry_leaves, firsts_of, leaf_of, leaves_of, lower, map, max, min, next_first, next_past, no_entry, no_node, node, none_begins, of_leaves, range, ranges_of, record_number_limit, refl, suc, sum_by-cons, ℕ, ◌+◌, ◌-◌, ◌<◌, ◌∷◌, ◌≡◌, ◌≤◌, Each, Each-append, Each-split, nat_tests}
 use Rattle.cdf_edits.proofs.Common.{Leaf}
+use Rattle.cdf_puts.proofs.SharedRoom.{leaf_there}
 
 before_more : (s e : ℕ) (r : Range) (rs : List Range) → covered_before s e (r ∷ rs) ≡ (min e (r.last + 1) - max s r.first) + covered_before s e rs
 before_more s e r rs = sum_by-cons (λ x. x) (min e (r.last + 1) - max s r.first) (map (λ (x : Range). min e (x.last + 1) - max s x.first) rs)
@@ -34,10 +35,6 @@ none_covered k e last [] le a none = refl
 none_covered k e last (x ∷ xs) le a none = grind (arith, nat_tests, before_more k e (range x.first x.last) (of_leaves xs), none_covered k e last xs le a.1, a.0, none)
 
 -- ---- all of them have one
-
-leaf_there : (k low upto : ℕ) (xs : List Leaf) (l : Leaf) → Ascending low upto xs → leaf_of k xs ≡ Some l → (low ≤ k) × (k ≤ l.last)
-leaf_there k low upto [] l a e = absurd cc
-leaf_there k low upto (x ∷ xs) l a e = grind (arith, nat_tests, leaf_there k (suc x.last) upto xs l a.3, a.0, a.1, e)
 
 none_after : (k e low upto : ℕ) (xs : List Leaf) → Ascending low upto xs → e ≤ low → covered_before k e (of_leaves xs) ≡ 0
 none_after k e low upto [] a le = refl

@@ -1,5 +1,5 @@
 -- How large a put makes the file at most, by what was read of the variable.
-use Rattle.cdf_var_records.proofs.Common.{None, Option, Some, [], block_count, extent, map, min, sum_by-cons, Ascending, Form, Good, HasIndex, IsForm, List, Nodes, Variable, ap, ap₂, arith, blocks_room, covered, false, first_written, index_at, leaves_ascend, leaves_of, length, number, packed_room, put_room, ranges_before_put, ranges_of, record_number_limit, refl, subst, suc, sym, uncovered, variable_at, vdr_vxr_head, ℕ, ◌+◌, ◌-◌, ◌<◌, ◌∙◌, ◌∷◌, ◌≡◌, ◌≤◌, ◌≡◌}
+use Rattle.cdf_var_records.proofs.Common.{None, Option, Some, [], block_count, extent, map, min, sum_by-cons, Ascending, Form, Good, HasIndex, IsForm, List, Nodes, Variable, ap, arith, blocks_room, covered, false, first_written, index_at, leaves_ascend, leaves_of, length, number, packed_room, put_room, ranges_before_put, ranges_of, record_number_limit, refl, subst, suc, sym, uncovered, variable_at, vdr_vxr_head, ℕ, ◌+◌, ◌-◌, ◌<◌, ◌∙◌, ◌∷◌, ◌≡◌, ◌≤◌, ◌≡◌}
 use Rattle.cdf_edits.proofs.Common.{Leaf, either, inl, inr, lt-ltb, ltb, nat_tests}
 use Rattle.cdf_edits.specs.Commands.Room.{entries_in, quotient_up, widest}
 use Rattle.cdf_format.specs.Records.{linked_size, vxr_bytes}
@@ -15,11 +15,6 @@ use Rattle.std.proofs.Math.Nat.{mul-le-mul}
 use Rattle.std.specs.Prelude.{IfSome, zero, ◌*◌, if◌then◌else◌}
 use Rattle.cdf_model.specs.declared.kinds.Sparse.{Sparse}
 use Rattle.cdf_var_records.proofs.RecordReading.{index, lies}
-use Rattle.cdf_var_records.proofs.PadSites.{at}
-use Rattle.cdf_format.specs.Shape.{is_compressed}
-
-no_packed : (v : Variable) (nodes : Nodes) (r : ℕ) → v.rle ≡ false → packed_room v nodes r ≡ 0
-no_packed v nodes r loose = rw loose refl
 
 -- ---- the records that a put writes
 
@@ -60,8 +55,8 @@ cut_first v nodes r from from_is a past = elim (either (is_sparse v.sparse)) [
   | inr t ↦ absurd (omega (arith, rw t at from_is))
 ]
 
-room_is : (v : Variable) (nodes : Nodes) (r missing : ℕ) → v.rle ≡ false → missing ≡ uncovered v nodes r → put_room v nodes r ≡ blocks_room v nodes missing
-room_is v nodes r missing loose is = ap₂ (λ (x y : ℕ). x + y) (ap (blocks_room v nodes) (sym is)) (no_packed v nodes r loose) ∙ omega arith
+room_is : (v : Variable) (nodes : Nodes) (r missing : ℕ) → missing ≡ uncovered v nodes r → put_room v nodes r ≡ blocks_room v nodes missing + packed_room v nodes r
+room_is v nodes r missing is = ap (λ (u : ℕ). blocks_room v nodes u + packed_room v nodes r) (sym is)
 
 -- the room of new blocks, by what they are to have
 blocks_by : (v : Variable) (nodes : Nodes) (missing : ℕ) → blocks_room v nodes missing ≡ bytes_by (block_count v) (record_length v) missing (entries_in nodes) (widest nodes)
@@ -111,16 +106,23 @@ module _ {b : List ℕ} {form : Form} (good : Good b) (is : IsForm b form) (r : 
     pub leaves_rise : Ascending 0 (suc record_number_limit) (leaves_of (index_at x head))
     leaves_rise = leaves_ascend 0 record_number_limit (index_at x head) index_there.order (omega arith)
 
-  module _ (missing : ℕ) (missing_is : missing ≡ uncovered v nodes r) (unpacked : is_compressed b vdr ≡ false) where
-    room_there : put_room v nodes r ≡ blocks_room v nodes missing
-    room_there = room_is v nodes r missing unpacked missing_is
+  module _ (missing : ℕ) (missing_is : missing ≡ uncovered v nodes r) where
+    room_there : put_room v nodes r ≡ blocks_room v nodes missing + packed_room v nodes r
+    room_there = room_is v nodes r missing missing_is
 
-    -- the room is that of these blocks, and none where no record is without one
-    pub blocks_there : (blocks : NewBlocks) → blocks.count ≡ block_count v → blocks.size ≡ record_length v → blocks.missing ≡ missing → put_room v nodes r ≡ room_in nodes blocks
-    blocks_there blocks count_is size_is same = room_there ∙ blocks_by v nodes missing ∙ (λ i. bytes_by (sym count_is i) (sym size_is i) (sym same i) (entries_in nodes) (widest nodes))
+    -- the room is that of these blocks and of those that are rewritten, and of these alone where no record is without one
+    pub blocks_there : (blocks : NewBlocks) → blocks.count ≡ block_count v → blocks.size ≡ record_length v → blocks.missing ≡ missing → put_room v nodes r ≡ room_in nodes blocks + packed_room v nodes r
+    blocks_there blocks count_is size_is same =
+        room_there
+        ∙ ap (λ (n : ℕ). n + packed_room v nodes r) (blocks_by v nodes missing)
+        ∙ (λ i. bytes_by (sym count_is i) (sym size_is i) (sym same i) (entries_in nodes) (widest nodes) + packed_room v nodes r)
 
-    pub none_there : missing ≡ 0 → put_room v nodes r ≡ 0
-    none_there none = room_there ∙ ap (blocks_room v nodes) none
+    pub none_there : missing ≡ 0 → put_room v nodes r ≡ packed_room v nodes r
+    none_there none = omega (arith, room_there, ap (blocks_room v nodes) none)
+
+    -- what is rewritten takes no more than all
+    pub rewritten_there : packed_room v nodes r ≤ put_room v nodes r
+    rewritten_there = omega (arith, room_there)
 
     -- and an index that is known to be no larger than a bound has room for no entry more
     pub none_expected : (starts : Starts) → IfSome (known_of starts vdr) (IsRightOf nodes) → missing ≡ 0 → ExpectsPut b vdr r starts

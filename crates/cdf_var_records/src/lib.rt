@@ -5,6 +5,7 @@ mod bad_shape;
 mod extent;
 mod form;
 mod next;
+mod packed_room;
 mod pad_place;
 mod previous;
 mod put_room;

@@ -18,10 +18,10 @@ ghost use Rattle.cdf_puts.specs.Searching.{IsSearch};
 ghost use Rattle.cdf_puts.specs.Starts.{InTopChain, IsKnownStart, IsWithin, KnowsStarts};
 ghost use Rattle.cdf_var_records.specs.Room.{ExpectsPut, IsStretch, count_in_block, put_room_at, room_by, room_in};
 ghost use Rattle.cdf_var_records.specs.Records.{IsForm, variable_at};
-ghost use Rattle.cdf_format.specs.Shape.{is_compressed};
 
 use crate::extent::read_extent;
 use crate::form::Form;
+use crate::packed_room::read_packed_room;
 use crate::record::{record_size_of, says_vary};
 use crate::variable::read_sparse;
 use cdf_area::{Area, AreaError};
@@ -254,7 +254,7 @@ fn read_bound<A: Area>(
     head: u64,
     known: Option<IndexBound>,
     blocks: NewBlocks,
-    left: u64,
+    left: u128,
 ) -> Result<IndexBound, AreaError>
     requires index { HasIndex (A.image area.old) head }
     requires short { length (A.image area.old) ≤ image_limit }
@@ -266,7 +266,7 @@ fn read_bound<A: Area>(
     ensures area { Reads A.image A.frame A.faults A.edited area.old area.new result }
 {
     if let Some(bound) = known {
-        if room_of(blocks, bound) <= u128::from(left) {
+        if room_of(blocks, bound) <= left {
             return Ok(bound);
         }
     }
@@ -292,7 +292,6 @@ pub fn has_put_room<A: Area>(
     requires good { Good (A.image area.old) }
     requires short { length (A.image area.old) ≤ image_limit }
     requires form { IsForm (A.image area.old) form.now }
-    requires unpacked { is_compressed (A.image area.old) form.now.place.vdr ≡ false }
     requires known { IsKnownStart (A.image area.old) form.now.place.vdr known }
     requires starts { KnowsStarts (A.image area.old) starts.old }
     requires within { rec ≤ record_number_limit }
@@ -308,9 +307,15 @@ pub fn has_put_room<A: Area>(
     let vdr = form.place.vdr;
     let head = read_unsigned8(area, vdr + VDR_VXR_HEAD)?;
     let missing = count_uncovered(area, vdr, head, known, from, rec)?;
+    let rewritten = read_packed_room(area, form, head, known, from, rec)?;
+    let left = u128::from(left);
+    if left < rewritten {
+        return Ok(false);
+    }
     if missing == 0 {
         return Ok(true);
     }
+    let rest = left - rewritten;
     let count = read_block_count(area, form)?;
     let size = record_size_of(&form.shape);
     let blocks = NewBlocks {
@@ -318,7 +323,7 @@ pub fn has_put_room<A: Area>(
         size,
         missing,
     };
-    let bound = read_bound(area, head, starts.bound_of(vdr), blocks, left)?;
+    let bound = read_bound(area, head, starts.bound_of(vdr), blocks, rest)?;
     starts.keep_bound(vdr, bound, missing);
-    Ok(room_of(blocks, bound) <= u128::from(left))
+    Ok(room_of(blocks, bound) <= rest)
 }

@@ -11,7 +11,7 @@ ghost use Rattle.cdf_model.specs.RunLengths.{plain_of};
 ghost use Rattle.cdf_var_records.specs.Unpacked.{IsUnpacked};
 
 use cdf_area::{Area, AreaError};
-use cdf_packed::read_packed;
+use cdf_packed::read_unpacked;
 use std::alloc::{AllocError, Global};
 
 /// A packed block and its plain bytes.
@@ -34,23 +34,6 @@ fn piece(alloc: Global, bytes: &[u8], from: u64, count: u64) -> Result<Vec<u8>, 
 {
     let end = from + count;
     bytes[from as usize..end as usize].to_vec(alloc)
-}
-
-/// The plain bytes of the packed block at a place, which are just so many.
-fn read_plain<A: Area>(
-    alloc: Global,
-    area: &mut A,
-    at: u64,
-    size: u64,
-) -> Result<Vec<u8>, AreaError>
-    requires inside { LiesIn (A.image area.old) at (cvvr_packed (number (A.image area.old) at cvvr_c_size)) }
-    requires fits { unpacks_to (packed_bytes (A.image area.old) at) size ≡ true }
-    requires small { size ≤ record_limit }
-    ensures plain { IfOk result (λ plain. plain.items ≡ plain_of (packed_bytes (A.image area.old) at)) }
-    ensures area { Reads A.image A.frame A.faults A.edited area.old area.new result }
-{
-    let found = read_packed(alloc, area, at, size)?;
-    Ok(found.unwrap())
 }
 
 impl Unpacked {
@@ -93,7 +76,7 @@ impl Unpacked {
             }
         }
         self.forget();
-        let plain = read_plain(alloc, area, at, size)?;
+        let plain = read_unpacked(alloc, area, at, size)?;
         let bytes = piece(alloc, &plain, from, count)?;
         self.block = Some(Block { at, plain });
         Ok(bytes)

@@ -21,7 +21,7 @@ use cdf_records::{read_name, read_signed4, read_unsigned4};
 use std::alloc::Global;
 
 /// Whether records are packed, by the Flags of a descriptor.
-fn says_packed(flags: u32) -> bool
+pub fn says_packed(flags: u32) -> bool
     ensures { result ≡ has_bit flags vdr_compression_bit }
 {
     has_bit(flags, VDR_COMPRESSION_BIT)

@@ -1,13 +1,14 @@
 -- SRecords of a descriptor is written, and its variable has no index: the variable has its rules yet, and the image is good.
-use Rattle.cdf_edits.proofs.Common.{Bool, Good, Hold, Kind, List, R, Variable, VariableShape, Z, [], ap, arith, avoided, cast_signed, dimension_limit, dimensions_at, dims_at, elems_at, false, field_marks, gdr_eof, gdr_type, has_bit, has_dimensions, if◌then◌else◌, image_limit, index_rows, is_characters, is_compressed, is_max_rec, is_no_link, is_positive, is_z, length, list_all, nat_le, notation_of, number, of_le, record_limit, refl, shape, size_at, sparse_at, subst, sym, true, type_in, type_of, type_of_variable, variable_of, variable_rows, variables_chain, vdr_cpr_or_spr_offset, vdr_data_type, vdr_end, vdr_max_rec, vdr_num_elems, vdr_r_pad_value, vdr_s_records, vdr_z_num_dims, vdr_z_pad_value, w32, z_vdr_type, ℕ, ◌*◌, ◌+◌, ◌==◌, ◌∙◌, ◌≡◌, ◌≤◌}
+use Rattle.cdf_edits.proofs.Common.{Bool, Good, Hold, Kind, List, R, Variable, VariableShape, Z, [], ap, arith, asked, avoided, both, cast_signed, cpr_link, cpr_rows, cpr_type, dimension_limit, dimensions_at, dims_at, either, elems_at, false, field_marks, gdr_eof, gdr_type, has_bit, has_dimensions, if◌then◌else◌, image_limit, index_rows, inl, inr, is_a, is_a-in, is_a-type, is_characters, is_compressed, is_cpr, is_known_packing, is_max_rec, is_no_link, is_positive, is_z, length, list_all, nat_le, notation_of, number, of_le, record_limit, refl, shape, size_at, sparse_at, subst, sym, true, type_at, type_in, type_of, type_of_variable, variable_of, variable_rows, variables_chain, vdr_cpr_or_spr_offset, vdr_data_type, vdr_end, vdr_max_rec, vdr_num_elems, vdr_r_pad_value, vdr_s_records, vdr_z_num_dims, vdr_z_pad_value, w32, z_vdr_type, ℕ, ◌*◌, ◌+◌, ◌==◌, ◌∙◌, ◌≡◌, ◌≢◌, ◌≤◌}
 use Rattle.std.proofs.Common.{is_some, not, ◌&&◌, ◌||◌}
 use Rattle.cdf_format.specs.Index.{Nodes, leaves_of, no_node}
 use Rattle.cdf_format.specs.IndexRules.{nodes_rows}
 use Rattle.cdf_model.specs.Place.{record_size}
 use Rattle.cdf_model.specs.Types.{size_of}
 use Rattle.cdf_format.specs.Fields.{counted}
-use Rattle.cdf_edits.proofs.Edits.Common.{StandsAmong, good_in_place, named_before, own_ruled}
+use Rattle.cdf_edits.proofs.Edits.Common.{StandsAmong, good_in_place, named_before, own_ruled, typed}
 use Rattle.cdf_edits.proofs.Frame.Meaning.{FileSame, if_same}
+use Rattle.cdf_edits.proofs.Rules.OfVdrCopied.{CprStays, cpr_stays}
 use Rattle.cdf_edits.proofs.Frame.VdrAlike.{copied_in_place, word_copied}
 use Rattle.cdf_edits.proofs.Frame.VdrStays.{long_z}
 use Rattle.cdf_sparse.proofs.RuledVdr.{RuledVdr, early_same, flags_same, late_same, name_same, packed_same, variable_ruled}
@@ -69,8 +70,28 @@ module _ {b now : List ℕ} (file : FileSame b now) (own : VariableShape) (k : R
       by true e = let z = z_same in let rule = dimensions_rule e in λ i. not (z i) || rule i
       by false e = rw (z_same, e) refl
 
-  pub rules_ruled : (records : List ℕ) → is_compressed b v ≡ false → nat_le (number now v vdr_s_records) 2 ≡ true → Hold (variable_rows b records [] v) → Hold (variable_rows now records [] v)
-  rules_ruled records plain small h =
+  -- its parameters keep their rules, where their record is what it was
+  parameters_ruled : (records : List ℕ) → ((m : ℕ) → is_cpr b records m ≡ true → CprStays b now records m) → Hold (variable_rows b records [] v)
+      → ((not (is_compressed now v) || is_cpr now records (cpr_link now v)) ≡ true) × Hold (asked (is_compressed now v) (cpr_rows now records (cpr_link now v)))
+  parameters_ruled records stays h =
+      let h11 = h.1.1.1.1.1.1.1.1.1.1 in
+      let same = packed_same file k in
+      let link = late_same file k vdr_cpr_or_spr_offset (omega arith) (omega arith) in
+      elim (either (is_compressed b v)) [
+        | inl packed ↦
+            let was : is_cpr b records (cpr_link b v) ≡ true = rw packed at h11.0 in
+            let rows = rw packed at h11.1 in
+            let known : is_known_packing b (cpr_link b v) ≡ true = (rw was at rows).0 in
+            let kept = stays (cpr_link b v) was in
+            let packed_now : is_compressed now v ≡ true = same ∙ packed in
+            let is : is_cpr now records (cpr_link now v) ≡ true = ap (is_cpr now records) link ∙ kept.is in
+            let says : is_known_packing now (cpr_link now v) ≡ true = ap (is_known_packing now) link ∙ kept.packing ∙ known in
+            (rw packed_now is, rw (packed_now, is) (says, tt))
+        | inr plain ↦ let plain_now : is_compressed now v ≡ false = same ∙ plain in (rw plain_now refl, rw plain_now tt)
+      ]
+
+  pub rules_ruled : (records : List ℕ) → ((m : ℕ) → is_cpr b records m ≡ true → CprStays b now records m) → nat_le (number now v vdr_s_records) 2 ≡ true → Hold (variable_rows b records [] v) → Hold (variable_rows now records [] v)
+  rules_ruled records stays small h =
       let h3 = h.1.1 in
       let h5 = h3.1.1 in
       let h7 = h5.1.1 in
@@ -86,7 +107,7 @@ module _ {b now : List ℕ} (file : FileSame b now) (own : VariableShape) (k : R
       let max = early_same file k vdr_max_rec (omega arith) in
       let link = late_same file k vdr_cpr_or_spr_offset (omega arith) (omega arith) in
       let same = packed_same file k in
-      let packed : is_compressed now v ≡ false = same ∙ plain in (
+      let parameters = parameters_ruled records stays h in (
         ap (λ (n : List ℕ). not (length n == 0)) name ∙ h.0,
         (
           refl,
@@ -106,7 +127,7 @@ module _ {b now : List ℕ} (file : FileSame b now) (own : VariableShape) (k : R
                         small,
                         (
                           (λ i. same i || is_no_link (link i)) ∙ h10.0,
-                          (rw packed refl, rw packed tt),
+                          parameters,
                         ),
                       ),
                     ),
@@ -123,11 +144,23 @@ module _ {b now : List ℕ} {kind : Kind} {before : List VariableShape} {own : V
   clear R v = refl
   clear Z v = refl
 
-  pub ruled_good : own.index ≡ no_node → is_compressed b own.vdr ≡ false → code ≤ 2 → length b ≤ image_limit → Good now
-  ruled_good none plain small short =
+  -- no record of parameters is the descriptor
+  not_vdr : (k : Kind) → type_in (variables_chain k) ≢ cpr_type
+  not_vdr R e = cc
+  not_vdr Z e = cc
+
+  parameters_stay : (m : ℕ) → is_cpr b (shape b).records m ≡ true → CprStays b now (shape b).records m
+  parameters_stay m is =
+      let one = (both (is_a b (shape b).records cpr_type m) _ is).0 in
+      let i = is_a-in b (shape b).records cpr_type m one in
+      let other = λ (e : m ≡ own.vdr). not_vdr kind (sym (typed good at) ∙ ap (type_at b) (sym e) ∙ is_a-type b (shape b).records cpr_type m one) in
+      cpr_stays b now (shape b).records (shape b).records m is (of_rule.kept_beside good at w m i other) i
+
+  pub ruled_good : own.index ≡ no_node → code ≤ 2 → length b ≤ image_limit → Good now
+  ruled_good none small short =
       let x = of_rule.own_edit good at w in
       let file = of_rule.file good at w in
       let k = of_rule.ruled_vdr good at w in
       let rows = subst (λ (n : Nodes). Hold (index_rows now (shape b).records own.vdr n)) (sym none) (none_broken now (shape b).records own.vdr) in
-      let rules = rules_ruled file own k none (shape b).records plain (of_le (number now own.vdr vdr_s_records) 2 (omega (arith, small, w.code_is))) (own_ruled good at x).0 in
+      let rules = rules_ruled file own k none (shape b).records parameters_stay (of_le (number now own.vdr vdr_s_records) 2 (omega (arith, small, w.code_is))) (own_ruled good at x).0 in
       good_in_place good at x w.as_long (clear kind own.vdr) (rules, rows) (named_before good at x (name_same file k)) short

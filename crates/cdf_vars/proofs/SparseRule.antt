@@ -13,7 +13,6 @@ use Rattle.cdf_sparse.specs.SetRule.{RuleWritten, SetRule, rule_code}
 use Rattle.cdf_vars.proofs.PutRead.{names_set, places_on}
 use Rattle.cdf_vars.proofs.RuledGood.{ruled_good}
 use Rattle.cdf_vars.proofs.VariableFound.{Parts, item_found, knows_now}
-use Rattle.cdf_puts.proofs.GoesThen.{later_loose}
 
 -- each code of a rule is one that SRecords may have
 small_code : (rule : Sparse) → rule_code rule ≤ 2
@@ -76,7 +75,7 @@ module _ {b : List ℕ} {name : List ℕ} {known : Known} {id : VarId} (good : G
         none_stored = none_stored;
         cut = cut;
         written = written;
-        still_good = ruled_good mid_good cut.goes_on.among written (none_left good p.at cut) (later_loose good p.at cut.goes_on cut.loose) small (omega (arith, cut.long, short));
+        still_good = ruled_good mid_good cut.goes_on.among written (none_left good p.at cut) small (omega (arith, cut.long, short));
       }
 
       pub rule_done : (limit : ℕ) → length b ≤ limit → Answers limit b (SetSparse name rule) (Done Plain) now

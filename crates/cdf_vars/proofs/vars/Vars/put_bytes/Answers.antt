@@ -15,9 +15,6 @@ read_extent-requires g c = let l = head_lies c.requires.good c.requires.can.is.i
 pub has_put_room-requires-clause-good : goal.has_put_room-requires-clause-good
 has_put_room-requires-clause-good g c = rw (c.read_first_written.ensures.area.image, c.read_extent.ensures.area.image, c.find_start.ensures.area.image) c.requires.good
 
-pub has_put_room-requires-clause-unpacked : goal.has_put_room-requires-clause-unpacked
-has_put_room-requires-clause-unpacked g c = rw (c.read_first_written.ensures.area.image, c.read_extent.ensures.area.image, c.find_start.ensures.area.image) c.requires.unpacked
-
 pub has_put_room-requires-clause-within : goal.has_put_room-requires-clause-within
 has_put_room-requires-clause-within g c = within (variable_at (g.A.Area.image c.args.area.now) c.args.target.now.form.place.vdr) c.args.rec c.requires.can.can
 
