@@ -3,6 +3,7 @@ pub mod PlacedLeaf
 pub mod PlacedNode
 pub mod BlockBytes
 pub mod BlockOf
+pub mod LeafBlock
 pub mod KeptRules
 pub mod EntryNamed
 pub mod BytesWritten

@@ -1,4 +1,5 @@
 pub mod Blocks
+pub mod Reading
 pub mod Replaced
 pub mod Shortened
 pub mod Sites

@@ -8,5 +8,5 @@ mod unpacking;
 mod writing;
 
 pub use packing::pack_block;
-pub use unpacking::{read_packed, unpack};
+pub use unpacking::{read_packed, read_unpacked, unpack};
 pub use writing::write_packed;

@@ -1,6 +1,6 @@
 //! The plain bytes of a packed block.
 
-ghost use Rattle.std.specs.Prelude.{◌≡◌, ◌≤◌, IfOk, IfSome, is_some};
+ghost use Rattle.std.specs.Prelude.{◌≡◌, ◌≤◌, IfOk, IfSome, is_some, true};
 ghost use Rattle.cdf_area.specs.Calls.{Reads};
 ghost use Rattle.cdf_format.specs.Fields.{LiesIn, counted, integer8, number};
 ghost use Rattle.cdf_format.specs.IndexRules.{unpacks_to};
@@ -64,4 +64,21 @@ pub fn read_packed<A: Area>(
     }
     let packed = read_bytes(alloc, area, at + CVVR_PACKED, count)?;
     Ok(unpack(alloc, &packed, size)?)
+}
+
+/// The plain bytes of the packed block at a place, which are just so many.
+pub fn read_unpacked<A: Area>(
+    alloc: Global,
+    area: &mut A,
+    at: u64,
+    size: u64,
+) -> Result<Vec<u8>, AreaError>
+    requires inside { LiesIn (A.image area.old) at (cvvr_packed (number (A.image area.old) at cvvr_c_size)) }
+    requires fits { unpacks_to (packed_bytes (A.image area.old) at) size ≡ true }
+    requires small { size ≤ record_limit }
+    ensures plain { IfOk result (λ plain. plain.items ≡ plain_of (packed_bytes (A.image area.old) at)) }
+    ensures area { Reads A.image A.frame A.faults A.edited area.old area.new result }
+{
+    let found = read_packed(alloc, area, at, size)?;
+    Ok(found.unwrap())
 }

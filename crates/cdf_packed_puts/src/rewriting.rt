@@ -3,80 +3,28 @@
 ghost use Rattle.std.specs.Prelude.{◌≡◌, ◌≤◌, ◌<◌, ◌+◌, ◌-◌, ◌*◌, ℕ, List, length, max, true, Some, IfOk};
 ghost use Rattle.cdf_area.specs.Calls.{Edits, Reads};
 ghost use Rattle.cdf_base.specs.Bytes.{put};
+ghost use Rattle.cdf_blocks.specs.Reading.{block_size};
 ghost use Rattle.cdf_blocks.specs.Sites.{IsFound};
 ghost use Rattle.cdf_edits.specs.Commands.PutSteps.{Put};
 ghost use Rattle.cdf_format.specs.Content.{plain_bytes};
-ghost use Rattle.cdf_format.specs.Fields.{LiesIn, number};
-ghost use Rattle.cdf_format.specs.IndexRules.{unpacks_to};
-ghost use Rattle.cdf_format.specs.Records.{cvvr_c_size, cvvr_packed, linked_size, vdr_vxr_head, vvr_bytes};
+ghost use Rattle.cdf_format.specs.Fields.{number};
+ghost use Rattle.cdf_format.specs.Records.{linked_size, vdr_vxr_head, vvr_bytes};
 ghost use Rattle.cdf_format.specs.Shape.{VariableShape};
-ghost use Rattle.cdf_format.specs.Stored.{packed_bytes};
-ghost use Rattle.cdf_format.specs.VariableFields.{plain_size};
 ghost use Rattle.cdf_index.specs.Finding.{index_at};
 ghost use Rattle.cdf_index.specs.Sight.{seen};
 ghost use Rattle.cdf_model.specs.Limits.{image_limit, record_number_limit};
-ghost use Rattle.cdf_model.specs.Place.{record_limit};
-ghost use Rattle.cdf_model.specs.RunLengths.{plain_of};
 ghost use Rattle.cdf_model.specs.declared.kinds.Kind.{Kind};
 ghost use Rattle.cdf_puts.specs.Putting.{record_put};
-ghost use Rattle.cdf_packed_puts.specs.Rewriting.{PlainStands, PutsInto, LeafPut, SomePutInto, block_size, written_over};
+ghost use Rattle.cdf_packed_puts.specs.Rewriting.{PutsInto, LeafPut, SomePutInto, written_over};
 
 use cdf_area::{Area, AreaError};
-use cdf_blocks::{SitedLeaf, write_block};
-use cdf_format::fields::VVR_RECORDS;
+use cdf_blocks::{SitedLeaf, block_size, read_plain, write_block};
 use cdf_index::Leaf;
-use cdf_packed::read_packed;
 use cdf_puts::NewRecord;
-use cdf_records::read_bytes;
 use std::alloc::Global;
 
-/// How many plain bytes the block of a leaf has whose records have so many each.
-fn block_size(leaf: &Leaf, rec_bytes: u64) -> u64
-    requires ordered { leaf.now.first ≤ leaf.now.last }
-    requires small { leaf.now.last ≤ record_number_limit }
-    requires fits { block_size (seen leaf.now) rec_bytes ≤ image_limit }
-    ensures { result ≡ block_size (seen leaf.now) rec_bytes }
-{
-    u64::from(leaf.last + 1 - leaf.first) * rec_bytes
-}
-
-/// The plain bytes of the packed block at a place, which are just so many.
-fn read_unpacked<A: Area>(
-    alloc: Global,
-    area: &mut A,
-    at: u64,
-    size: u64,
-) -> Result<Vec<u8>, AreaError>
-    requires inside { LiesIn (A.image area.old) at (cvvr_packed (number (A.image area.old) at cvvr_c_size)) }
-    requires fits { unpacks_to (packed_bytes (A.image area.old) at) size ≡ true }
-    requires small { size ≤ record_limit }
-    ensures plain { IfOk result (λ plain. plain.items ≡ plain_of (packed_bytes (A.image area.old) at)) }
-    ensures area { Reads A.image A.frame A.faults A.edited area.old area.new result }
-{
-    let found = read_packed(alloc, area, at, size)?;
-    Ok(found.unwrap())
-}
-
-/// The plain bytes of the block of a leaf, which has so many.
-fn read_plain<A: Area>(
-    alloc: Global,
-    area: &mut A,
-    leaf: &Leaf,
-    size: u64,
-) -> Result<Vec<u8>, AreaError>
-    requires stands { PlainStands (A.image area.old) (seen leaf.now) size }
-    requires short { length (A.image area.old) ≤ image_limit }
-    ensures plain { IfOk result (λ plain. (vdr : ℕ) → plain_size (A.image area.old) vdr (seen leaf.now) ≡ size → plain.items ≡ plain_bytes (A.image area.old) vdr (seen leaf.now)) }
-    ensures area { Reads A.image A.frame A.faults A.edited area.old area.new result }
-{
-    if leaf.packed {
-        return read_unpacked(alloc, area, leaf.at, size);
-    }
-    read_bytes(alloc, area, leaf.at + VVR_RECORDS, size)
-}
-
 /// The bytes of the record of a number.
-fn bytes_of(put: &NewRecord, k: u32) -> &[u8]
+pub fn bytes_of(put: &NewRecord, k: u32) -> &[u8]
     ensures { result.now ≡ record_put put.now.raw.items put.now.pad.items put.now.rec k }
 {
     if k == put.rec { &put.raw } else { &put.pad }

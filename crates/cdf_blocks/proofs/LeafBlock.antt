@@ -1,5 +1,5 @@
 -- The block of a leaf of a packed variable of a good image: its plain bytes are as many as its records have, and they can be read (rules 8.5 to 8.8).
-use Rattle.std.proofs.Common.{Bool, List, [], ap, arith, drop, false, if◌then◌else◌, inl, inr, length, refl, subst, sym, take, true, ℕ, ◌*◌, ◌+◌, ◌-◌, ◌∙◌, ◌∷◌, ◌≡◌, ◌≤◌}
+use Rattle.std.proofs.Common.{Bool, List, [], ap, arith, drop, false, if◌then◌else◌, inl, inr, length, refl, subst, suc, sym, take, true, ℕ, ◌*◌, ◌+◌, ◌-◌, ◌∙◌, ◌∷◌, ◌≡◌, ◌≤◌}
 use Rattle.std.proofs.Common.{length-drop, length-take}
 use Rattle.cdf_edits.proofs.Common.{Good, Hold, Hold-split, Kind, LeafFits, VariableShape, both, cvvr_c_size, cvvr_rows, cvvr_type, eqb-true, flat_map, is_a, is_a-type, is_compressed, leaf_rows, leaves_of, nat_le, nodes_rows, number, plain_bytes, plain_size, record_bytes, record_number_limit, shape, size_at, tile_lies, true≢false, type_at, unpacks_to, vvr_rows, vvr_type}
 use Rattle.cdf_edits.proofs.Edits.Common.{StandsAmong, fits, has, sound}
@@ -18,7 +18,7 @@ use Rattle.cdf_model.specs.RunLengths.{is_cut, plain_of}
 use Rattle.cdf_blocks.proofs.BlockOf.{block_in, range_of, size_is}
 use Rattle.cdf_edits.proofs.Common.{le_of}
 use Rattle.std.specs.Prelude.{negsuc, pos, ◌==◌}
-use Rattle.cdf_packed_puts.specs.Rewriting.{PlainStands, block_size}
+use Rattle.cdf_blocks.specs.Reading.{PlainStands, block_size}
 
 pub piece_long : (xs : List ℕ) (at n : ℕ) → at + n ≤ length xs → length (take n (drop at xs)) ≡ n
 piece_long xs at n le = omega (arith, length-take n (drop at xs), length-drop at xs)

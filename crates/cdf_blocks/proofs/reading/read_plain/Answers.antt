@@ -1,8 +1,8 @@
 use Rattle.std.proofs.Common.{arith}
 use Rattle.std.proofs.lemmas.Result.{IfOk-weaker}
 use Rattle.cdf_index.specs.Sight.{seen}
-use Rattle.cdf_packed_puts.proofs.LeafBlock.{reads_loose, reads_packed}
-use Rattle.cdf_packed_puts.proofs.rewriting.read_plain.Goals as goal
+use Rattle.cdf_blocks.proofs.LeafBlock.{reads_loose, reads_packed}
+use Rattle.cdf_blocks.proofs.reading.read_plain.Goals as goal
 
 pub read_unpacked-requires-clause-inside : goal.read_unpacked-requires-clause-inside
 read_unpacked-requires-clause-inside g c = c.requires.stands.inside c.if-leaf.true
