@@ -1,7 +1,7 @@
 -- What is stored in the record of a block is what its plain bytes are stored as: the rules of the block, and how it is packed.
-use Rattle.std.proofs.Common.{Bool, List, [], ap, arith, false, length, refl, replicate, suc, sym, true, zero, ℕ, ◌++◌, ◌+◌, ◌∙◌, ◌∷◌, ◌≡◌, ◌≤◌}
+use Rattle.std.proofs.Common.{Bool, List, [], ap, arith, false, length, max, refl, replicate, suc, sym, true, zero, ℕ, ◌++◌, ◌+◌, ◌∙◌, ◌∷◌, ◌≡◌, ◌≤◌}
 use Rattle.std.specs.Prelude.{nat_le, nat_lt, ◌&&◌}
-use Rattle.cdf_edits.proofs.Common.{Hold, LeafFits, both, eq-eqb, holds_packed, is_a, is_compressed, is_in-true, leb-true, number, of_le, packed_bytes, plain_bytes, plain_size, size_at, type_at, unpacks_to}
+use Rattle.cdf_edits.proofs.Common.{Hold, LeafFits, both, eq-eqb, holds_packed, is_a, is_compressed, is_in-true, leb-true, nat_tests, number, of_le, packed_bytes, plain_bytes, plain_size, size_at, type_at, unpacks_to}
 use Rattle.cdf_edits.specs.Index.Written.{WellPacked, block_end, is_worth_packing}
 use Rattle.cdf_format.specs.Index.{Leaf}
 use Rattle.cdf_format.specs.IndexRules.{leaf_rows}
@@ -27,6 +27,21 @@ packs_are (zero ∷ n ∷ more) plain (rest, e, packs) = let r = packs_are more 
 -- packed bytes of these stand for just so many
 unpack_to : (packed plain : List ℕ) (n : ℕ) → Packs packed plain → length plain ≡ n → unpacks_to packed n ≡ true
 unpack_to packed plain n p e = let r = packs_are packed plain p in rw (r.0, unpacks_to) (eq-eqb (length (plain_of packed)) n (ap length r.1 ∙ e))
+
+-- packed they are shorter
+shorter : (n m : ℕ) → (nat_le n record_limit && nat_lt (24 + m) (12 + n)) ≡ true → 24 + m ≤ 12 + n
+shorter n m e = leb-true (24 + m) (12 + n) (lt_le (24 + m) (12 + n) (both (nat_le n record_limit) (nat_lt (24 + m) (12 + n)) e).1)
+  where
+    lt_le : (a c : ℕ) → nat_lt a c ≡ true → nat_le a c ≡ true
+    lt_le a c e = grind (arith, nat_tests, e)
+
+pub stored_room : (plain bytes : List ℕ) (packed : Bool) → StoredAs plain packed bytes → stored_end packed (length bytes) ≤ 12 + length plain
+stored_room plain bytes true a = shorter (length plain) (length bytes) a.stores.2
+stored_room plain bytes false a = omega (arith, ap length a.stores)
+
+-- so a record that ends there needs no more than one of the plain bytes
+pub need_most : (plain bytes : List ℕ) (packed : Bool) (end : ℕ) → end ≡ stored_end packed (length bytes) → StoredAs plain packed bytes → max 28 end ≤ max 28 (12 + length plain)
+need_most plain bytes packed end e a = let r = stored_room plain bytes packed a in omega arith
 
 -- a block stands there, and holds these bytes
 pub record BlockStands (now records : List ℕ) (l : Leaf) (bytes : List ℕ) : Type 0 where

@@ -1,11 +1,13 @@
 -- A block whose bytes are written in its record has been shortened.
-use Rattle.cdf_blocks.proofs.Common.{Bool, In, IsOneOf, Leaf, List, SaysEntry, [], arith, each_of, false, inl, inr, length, refl, room_at, subst, true, used_count, ℕ, ◌*◌, ◌+◌, ◌-◌, ◌<◌, ◌∙◌, ◌≡◌, ◌≢◌, ◌≤◌}
+use Rattle.cdf_blocks.proofs.Common.{Bool, In, IsOneOf, Leaf, List, SaysEntry, [], arith, cases_eq, each_of, false, inl, inr, length, refl, room_at, subst, sym, true, used_count, ℕ, ◌*◌, ◌+◌, ◌-◌, ◌<◌, ◌∙◌, ◌≡◌, ◌≢◌, ◌≤◌, ◌⊎◌}
 unfoldable use Rattle.cdf_blocks.proofs.Common.{leaves_of, nodes_of, with_range}
 use Rattle.cdf_edits.proofs.Common.{Good, Kind, Misses, Only, Same, VariableShape, image_limit, is_compressed, is_in-true, le-leb, of_le, record_bytes, shape, size_at, space_fields, vdr_max_rec, vdr_vxr_head, vdr_vxr_tail, word_kept}
 use Rattle.cdf_edits.proofs.Commands.KeptRecords.{keeps_stood}
 use Rattle.cdf_edits.proofs.Edits.Common.{StandsAmong, each, sound, stood, tile}
 use Rattle.cdf_edits.proofs.Edits.Composing.{part}
 use Rattle.cdf_edits.proofs.Edits.IndexEdited as of_index
+use Rattle.cdf_edits.proofs.Edits.RecordGrown.{kept_then}
+use Rattle.std.proofs.Common.{true≢false}
 use Rattle.cdf_edits.proofs.Edits.StandsAmong.{behind_in}
 use Rattle.cdf_edits.proofs.Edits.VariableCopied.{cpr_behind}
 use Rattle.cdf_edits.specs.Commands.Allowances.{Stays as StaysBut}
@@ -14,7 +16,8 @@ use Rattle.cdf_edits.specs.Index.Written.{EntryIs, NodeSpareStays, block_end, sa
 use Rattle.cdf_index.proofs.Common.{EntrySet}
 use Rattle.cdf_leaves.proofs.Spares.{Spares}
 use Rattle.cdf_blocks.specs.Blocks.{LiesIn, Overwritten, StoredAs, stored_end, stored_touches}
-use Rattle.cdf_blocks.specs.Shortened.{BlockShortened, NodeStays}
+use Rattle.cdf_blocks.specs.Shortened.{BlockShortened, NodeStays, NamesLeaf}
+use Rattle.cdf_blocks.proofs.BlockBytes.{need_most, stored_room}
 use Rattle.cdf_blocks.proofs.BlockGoes.{chain_stays, goes_by_step, heads}
 use Rattle.cdf_blocks.proofs.BlockOf.{block_in}
 use Rattle.cdf_blocks.proofs.EntryNamed.{NodeBut, spares_but, stays_but}
@@ -90,6 +93,18 @@ module _ {b mid now : List ℕ} {kind : Kind} {before : List VariableShape} {own
       let entry_then = of_entry.spare_stays good at old new one lies x i x_in used says way (of_bytes.typed_mid good at old one bytes w room) (of_bytes.typed_mid good at old one bytes w room) (block_in good at old one) set m j in
       record { each = λ p low up. entry_then.each p (omega (arith, low, n.room_is, (node_but m j).room_is)) (omega (arith, up, n.size_is)) ∙ k.same.each p (omega (arith, low)) up }
 
+  -- a node that does not name the block stays
+  else_stays : (m : ℕ) → In m nodes → StaysBut b now m [] ⊎ NamesLeaf b m old
+  else_stays m j = elim (cases_eq m x) [
+    | inl e ↦ inr (record { number = i; used = rw e used; says = rw e says })
+    | inr ne ↦
+        let way = of_bytes.way good at old one bytes w room in
+        let e = of_place.edit good at old first last one lies bytes x i x_in used says w room set in
+        let same = of_place.records_are good at old first last one lies bytes x i x_in used says w room set in
+        let k = kept_then b mid now m (way.node_kept m j) ((of_place.t good at old first last one lies bytes x i x_in used says w room set).others m (way.node_in m j) ne) in
+        inl (keeps_stood b now m (stood (sound good at) e same m (way.node_in m j) k) (Only []))
+  ]
+
   pub shortened_here : BlockShortened b now kind before own after old new plain
   shortened_here =
       let g = of_place.goes_on good at old first last one lies bytes x i x_in used says w room set rle plain plain_long stored short in
@@ -107,14 +122,19 @@ module _ {b mid now : List ℕ} {kind : Kind} {before : List VariableShape} {own
         index_is = refl;
         acts_are = rw stays refl;
         place_is = λ e. refl;
+        apart = λ e. absurd (true≢false (sym stays ∙ e));
         one = of_entry.new_one good at old new one lies x i x_in used says (of_bytes.way good at old one bytes w room) (of_bytes.typed_mid good at old one bytes w room) (of_bytes.typed_mid good at old one bytes w room) (block_in good at old one) set;
         lies = lies;
         written = written;
+        needs = need_most plain bytes old.packed (block_end now own.vdr new) end_is stored;
+        small = omega (arith, set.as_long, w.as_long, short);
+        most = subst (λ (n : ℕ). n ≤ 12 + length plain) (sym end_is) (stored_room plain bytes old.packed stored);
         goes_on = g;
         goes = λ changes here. goes_by_step good at g old one gdr descriptor others cpr changes here (λ m j. unused m (is m j)) (λ m j. spare m (is m j)) (chain_stays [] own.index (with_range old.first new own.index) (top_stays old.first new own.index) (λ m j. refl)) (field vdr_vxr_tail (omega arith)) tt;
         blocks = each_of (λ (l : Leaf). l.place ≢ old.place → StaysBut b now l.place []) (leaves_of own.index) (λ l j ne. keeps_stood b now l.place (others l j ne) (Only []));
         nodes_are = nodes_stay old.first new own.index;
         nodes = each (NodeStays b now old.place) nodes (λ m j. stays_but says (node_but m j));
+        elsewhere = each (λ m. StaysBut b now m [] ⊎ NamesLeaf b m old) nodes else_stays;
         head_is = field vdr_vxr_head (omega arith);
         tail_is = field vdr_vxr_tail (omega arith);
         max_rec_is = field vdr_max_rec (omega arith);

@@ -219,6 +219,13 @@ module _ {b filled linked now : List ℕ} {kind : Kind} {before : List VariableS
       node_no_block : type_at linked old.place ≡ vxr_type → ⊥
       node_no_block e = no_node_type old.packed (sym (of_linked.old_typed good at old new one lies bytes x i x_in used says block set) ∙ e)
 
+  -- a node that does not name the leaf stays
+  pub node_else : (m : ℕ) → In m nodes → m ≢ x → Kept b now m
+  node_else m j ne =
+      let late = of_linked.late good at old new one lies bytes x i x_in used says block set in
+      let there = (of_linked.node_filled good at old new one lies bytes x i x_in used says block set m j).0 in
+      kept_then b filled now m (of_own.node_kept good at late m j) (kept_then filled linked now m (t.others m there ne) (node_linked m j))
+
   -- but for the entry of the leaf each node is as it was
   pub nodes_but : (m : ℕ) → In m nodes → NodeBut b now x i m
   nodes_but m j =

@@ -1,5 +1,5 @@
 -- A block that got a new record has been shortened.
-use Rattle.cdf_blocks.proofs.Common.{Bool, In, In-append_right, IsOneOf, Leaf, List, Nodes, SaysEntry, [], ap, arith, each_of, false, inl, inr, length, no_node, node, refl, room_at, subst, sym, top_chain, true, used_count, ℕ, ◌*◌, ◌+◌, ◌-◌, ◌<◌, ◌∙◌, ◌∷◌, ◌≡◌, ◌≢◌, ◌≤◌}
+use Rattle.cdf_blocks.proofs.Common.{Bool, In, In-append_right, IsOneOf, Leaf, List, Nodes, SaysEntry, [], ap, arith, cases_eq, each_of, false, inl, inr, length, no_node, node, refl, room_at, subst, sym, top_chain, true, used_count, ℕ, ◌*◌, ◌+◌, ◌-◌, ◌<◌, ◌∙◌, ◌∷◌, ◌≡◌, ◌≢◌, ◌≤◌, ◌⊎◌}
 unfoldable use Rattle.cdf_blocks.proofs.Common.{leaves_of, lower_nodes, nodes_of, with_range}
 use Rattle.std.proofs.Common.{max, true≢false}
 use Rattle.cdf_edits.proofs.Commands.KeptRecords.{keeps_stood}
@@ -7,7 +7,7 @@ use Rattle.cdf_edits.proofs.Common.{AllGiven, FreedStay, Good, Kind, Only, Same,
 use Rattle.cdf_edits.proofs.Edits.Common.{StandsAmong, behind_in, each, sound, sound_now, stood, tile}
 use Rattle.cdf_edits.proofs.Edits.FreedBytes.{freed_stay}
 use Rattle.cdf_edits.proofs.Edits.IndexEdited as of_index
-use Rattle.cdf_edits.proofs.Edits.VariableCopied.{cpr_behind}
+use Rattle.cdf_edits.proofs.Edits.VariableCopied.{cpr_behind, node_behind}
 use Rattle.cdf_edits.specs.Commands.Allowances.{Stays as StaysBut}
 use Rattle.cdf_edits.specs.Commands.PutSteps.{BlockWritten}
 use Rattle.cdf_edits.specs.Index.Written.{EntryIs, NodeSpareStays, block_end, block_need, is_taken_at, same_packing, stays_put, was_unused}
@@ -15,9 +15,9 @@ use Rattle.cdf_edits.specs.Space.Acts.{Act}
 use Rattle.cdf_edits.specs.Space.Placing.{Placed}
 use Rattle.cdf_index.proofs.Common.{EntrySet}
 use Rattle.cdf_blocks.specs.Blocks.{LiesIn, StoredAs, block_body, stored_end}
-use Rattle.cdf_blocks.specs.Shortened.{BlockShortened, NodeStays}
+use Rattle.cdf_blocks.specs.Shortened.{BlockShortened, NamesLeaf, NodeStays}
 use Rattle.cdf_blocks.proofs.EntryNamed.{stays_but}
-use Rattle.cdf_blocks.proofs.BlockBytes.{end_is}
+use Rattle.cdf_blocks.proofs.BlockBytes.{end_is, need_most, stored_room}
 use Rattle.cdf_blocks.proofs.BlockGoes.{chain_stays, goes_by_step, heads}
 use Rattle.cdf_blocks.proofs.BlockOf.{block_in}
 use Rattle.cdf_blocks.proofs.MovedLinked as of_linked
@@ -95,6 +95,16 @@ module _ {b filled linked now : List ℕ} {kind : Kind} {before : List VariableS
   spare : (m : ℕ) → In m nodes → NodeSpareStays b now acts m
   spare m j free = subst (λ (r : ℕ). Same b now (m + (28 + 16 * r)) (m + size_at b m)) (sym (of_freed.spares good at old new one lies bytes x i x_in used says block set plain rle as_long stored short given m j).room_is) (of_freed.spare_same good at old new one lies bytes x i x_in used says block set plain rle as_long stored short given m j)
 
+  -- one that does not name the block stays
+  else_stays : (m : ℕ) → In m nodes → StaysBut b now m [] ⊎ NamesLeaf b m old
+  else_stays m j = elim (cases_eq m x) [
+    | inl e ↦ inr (record { number = i; used = rw e used; says = rw e says })
+    | inr ne ↦
+        let e = of_freed.edit good at old new one lies bytes x i x_in used says block set plain rle as_long stored short given in
+        let k = of_freed.node_else good at old new one lies bytes x i x_in used says block set plain rle as_long stored short given m j ne in
+        inl (keeps_stood b now m (stood (sound good at) e refl m (behind_in good at m (node_behind own m j)) k) (Only []))
+  ]
+
   -- ---- what is freed
 
   freed : FreedStay b now no_fields acts
@@ -115,13 +125,18 @@ module _ {b filled linked now : List ℕ} {kind : Kind} {before : List VariableS
         index_is = refl;
         acts_are = rw (not_put, need_is) refl;
         place_is = λ e. absurd (true≢false (sym e ∙ not_put));
+        apart = λ e q. of_linked.apart_places good at old new one lies bytes x i x_in used says block set (sym q);
         one = of_linked.new_one good at old new one lies bytes x i x_in used says block set;
         lies = lies;
         written = written;
+        needs = need_most plain bytes new.packed (block_end now own.vdr new) ends stored;
+        small = small;
+        most = subst (λ (n : ℕ). n ≤ 12 + length plain) (sym ends) (stored_room plain bytes new.packed stored);
         goes_on = g;
         goes = λ changes here. goes_by_step good at g old one (of_freed.gdr_stays good at old new one lies bytes x i x_in used says block set plain rle as_long stored short given) descriptor others cpr changes here (λ m j. unused m (is m j)) (λ m j. spare m (is m j)) (chain_stays acts own.index (with_range old.first new own.index) (top_stays old.first new own.index) (λ m j. node_apart m (top_in own.index m j))) (of_freed.vdr_field good at old new one lies bytes x i x_in used says block set plain rle as_long stored short given vdr_vxr_tail (omega arith)) freed;
         blocks = each_of (λ (l : Leaf). l.place ≢ old.place → StaysBut b now l.place []) (leaves_of own.index) (λ l j ne. keeps_stood b now l.place (others l j ne) (Only []));
         nodes_are = nodes_stay old.first new own.index;
+        elsewhere = each (λ m. StaysBut b now m [] ⊎ NamesLeaf b m old) nodes else_stays;
         nodes = each (NodeStays b now old.place) nodes (λ m j. stays_but says (of_freed.nodes_but good at old new one lies bytes x i x_in used says block set plain rle as_long stored short given m j));
         head_is = of_freed.vdr_field good at old new one lies bytes x i x_in used says block set plain rle as_long stored short given vdr_vxr_head (omega arith);
         tail_is = of_freed.vdr_field good at old new one lies bytes x i x_in used says block set plain rle as_long stored short given vdr_vxr_tail (omega arith);

@@ -1,13 +1,12 @@
 -- What the calls ask for that store the bytes of a block, and what they come to.
 use Rattle.cdf_blocks.proofs.Common.{Bool, Leaf, List, SaysEntry, ap, arith, false, length, refl, room_at, subst, sym, true, ℕ, ◌+◌, ◌<◌, ◌∙◌, ◌≡◌, ◌≤◌}
-use Rattle.cdf_edits.proofs.Common.{Kind, VariableShape, both, image_limit, leb-true, nat_le, nat_lt, nat_tests, shape, size_at, tile_lies, ◌&&◌}
+use Rattle.cdf_edits.proofs.Common.{Kind, VariableShape, image_limit, leb-true, nat_le, nat_tests, shape, size_at, tile_lies, ◌&&◌}
 use Rattle.cdf_edits.proofs.Edits.Common.{Kept, sound}
 use Rattle.cdf_edits.specs.Index.Written.{is_worth_packing, keeps_record, same_packing}
 use Rattle.cdf_index.proofs.Common.{NodeInside}
 use Rattle.cdf_index.proofs.OneNode.{SameNode, same_node}
 use Rattle.cdf_leaves.proofs.Own as of_own
 use Rattle.cdf_leaves.proofs.Spares.{node_inside}
-use Rattle.cdf_model.specs.Place.{record_limit}
 use Rattle.cdf_model.specs.RunLengths.{IsLongest, Packs}
 use Rattle.cdf_packed.specs.Choice.{IsChosen}
 use Rattle.cdf_blocks.specs.Blocks.{HasLeaf, HasPart, HasPlain, IsLeafOf, IsPartOf, IsPlainOf, LiesIn, Overwritten, StoredAs, block_body, stored_end}
@@ -15,6 +14,7 @@ use Rattle.cdf_blocks.specs.declared.placing.Part.{Part}
 use Rattle.cdf_blocks.specs.declared.placing.Site.{Site}
 use Rattle.cdf_blocks.specs.Replaced.{Moved, Rewritten}
 use Rattle.cdf_blocks.specs.Shortened.{BlockShortened}
+use Rattle.cdf_blocks.proofs.BlockBytes.{stored_room}
 use Rattle.cdf_blocks.proofs.BlockOf.{block_in, range_of}
 use Rattle.cdf_blocks.proofs.BytesWritten.{node_mid}
 use Rattle.cdf_blocks.proofs.InPlaceGoes.{shortened_here}
@@ -28,17 +28,6 @@ stored_plain plain chosen = record { chosen = chosen; stores = refl }
 
 pub stored_packed : (plain bytes : List ℕ) → IsChosen plain true → Packs bytes plain → IsLongest bytes → is_worth_packing plain bytes ≡ true → StoredAs plain true bytes
 stored_packed plain bytes chosen packs longest worth = record { chosen = chosen; stores = (packs, longest, worth) }
-
--- packed they are shorter
-shorter : (n m : ℕ) → (nat_le n record_limit && nat_lt (24 + m) (12 + n)) ≡ true → 24 + m ≤ 12 + n
-shorter n m e = leb-true (24 + m) (12 + n) (lt_le (24 + m) (12 + n) (both (nat_le n record_limit) (nat_lt (24 + m) (12 + n)) e).1)
-  where
-    lt_le : (a c : ℕ) → nat_lt a c ≡ true → nat_le a c ≡ true
-    lt_le a c e = grind (arith, nat_tests, e)
-
-pub stored_room : (plain bytes : List ℕ) (packed : Bool) → StoredAs plain packed bytes → stored_end packed (length bytes) ≤ 12 + length plain
-stored_room plain bytes true a = shorter (length plain) (length bytes) a.stores.2
-stored_room plain bytes false a = omega (arith, ap length a.stores)
 
 module _ {b : List ℕ} {site : Site} {l : Leaf} {records : Part} {plain : List ℕ} {limit : ℕ} (packed : Bool) (bytes : List ℕ) (a : StoredAs plain packed bytes) where
   pub leaf_of : {kind : Kind} {before : List VariableShape} {own : VariableShape} {after : List VariableShape} → IsPartOf b kind before own after site l records plain limit → IsLeafOf b kind before own after site l records plain packed bytes limit

@@ -50,6 +50,7 @@ module _ {b now : List ℕ} {kind : Kind} {before : List VariableShape} {own : V
     first_is = first_is;
     last_is = last_is;
     written = x.written;
+    needs = x.needs;
     goes_on = x.goes_on;
     goes = x.goes;
     blocks = x.blocks;

@@ -1,16 +1,17 @@
 -- The block of a leaf has other plain bytes, and its entry may have another range: in its record, or in one that was taken, after which the old one was freed (own).
-use Rattle.std.specs.Prelude.{◌≡◌, ◌≢◌, ℕ, List, [], ◌∷◌, true, Some}
+use Rattle.std.specs.Prelude.{◌≡◌, ◌≢◌, ◌≤◌, ℕ, List, [], ◌∷◌, length, max, true, Some}
 use Rattle.cdf_edits.specs.Edits.Standing.{IsOneOf}
 use Rattle.cdf_edits.specs.Commands.Allowances.{Stays}
 use Rattle.cdf_edits.specs.Commands.GreatestRecord.{r_max_rec}
 use Rattle.cdf_edits.specs.Commands.PutSteps.{BlockWritten, Goes, Stage, leaf_step}
 use Rattle.cdf_edits.specs.Index.Blocks.{Range, range}
+use Rattle.cdf_edits.specs.Index.Written.{block_need}
 use Rattle.cdf_edits.specs.Space.Acts.{Act}
 use Rattle.cdf_edits.specs.Space.Freeing.{AllGiven}
 use Rattle.cdf_edits.specs.Space.Placing.{Placed}
 use Rattle.cdf_format.specs.Fields.{number}
 use Rattle.cdf_format.specs.Index.{Leaf, leaves_of}
-use Rattle.cdf_format.specs.Records.{vdr_max_rec}
+use Rattle.cdf_format.specs.Records.{linked_size, vdr_max_rec, vvr_bytes}
 use Rattle.cdf_format.specs.Shape.{Each, VariableShape}
 use Rattle.cdf_index.specs.Writing.{EntrySet}
 use Rattle.cdf_model.specs.declared.kinds.Kind.{Kind}
@@ -37,7 +38,7 @@ pub record Moved (b now : List ℕ) (site : Site) (old new : Leaf) (bytes : List
 abbrev pub stage : List ℕ → VariableShape → List Act → ℕ → Stage
 stage image own acts next = record { image = image; own = own; acts = acts; next = next }
 
--- From one good image to another. All other blocks stay, and MaxRec and rMaxRec.
+-- From one good image to another. The record of the block needs no more than one of the plain bytes would. All other blocks stay, and MaxRec and rMaxRec.
 pub record BlockReplaced (b now : List ℕ) (kind : Kind) (before : List VariableShape) (own : VariableShape) (after : List VariableShape) (old new : Leaf) (plain : List ℕ) : Type 0 where
   pub own' : VariableShape
   pub acts : List Act
@@ -46,6 +47,7 @@ pub record BlockReplaced (b now : List ℕ) (kind : Kind) (before : List Variabl
   pub first_is : new.first ≡ old.first
   pub last_is : new.last ≡ old.last
   pub written : BlockWritten b now true own.vdr acts new plain
+  pub needs : block_need now own.vdr new ≤ max linked_size (vvr_bytes (length plain))
   pub goes_on : GoesOn b now kind before own own' after acts
   pub goes : (changes : Range → Bool) → changes (range old.first old.last) ≡ true → (done : List Act) (next to : ℕ) → Goes (found_in b kind before own) (stage b own done next) (stage now own' acts to) changes
   pub blocks : Each (λ l. l.place ≢ old.place → Stays b now l.place []) (leaves_of own.index)

@@ -15,7 +15,7 @@ use Rattle.cdf_edits.proofs.Index.OneDescent.{grown_is}
 use Rattle.cdf_edits.specs.Commands.Allowances.{OutsideFields, Stays as StaysBut, anything_if}
 use Rattle.cdf_edits.specs.Commands.PutSteps.{BlockWritten, Goes, leaf_step, step_changes}
 use Rattle.cdf_edits.specs.Index.Grown.{new_room, with_leaf}
-use Rattle.cdf_edits.specs.Index.Written.{EntryIs, NodeSpareStays, TailFollows, is_taken_at, last_node, was_unused}
+use Rattle.cdf_edits.specs.Index.Written.{EntryIs, NodeSpareStays, TailFollows, block_end, is_taken_at, last_node, was_unused}
 use Rattle.cdf_index.proofs.Common.{all_unmarked-away, away-avoids, variable_types}
 use Rattle.cdf_index.proofs.NewIndex.{NewIndex, index_edit, index_marks, own_edit, vdr_no_node, vdr_of_variable}
 use Rattle.cdf_index.proofs.OwnRecords as of_own
@@ -30,6 +30,7 @@ use Rattle.cdf_puts.specs.Going.{GoesOn, found_in}
 use Rattle.cdf_puts.specs.Steps.{IsVacant}
 use Rattle.cdf_blocks.specs.Blocks.{StoredAs, block_body}
 use Rattle.cdf_blocks.specs.Replaced.{stage}
+use Rattle.cdf_blocks.proofs.BlockBytes.{need_most}
 use Rattle.cdf_blocks.proofs.BlockOf.{block_in}
 use Rattle.cdf_blocks.proofs.NewBlock.{body_long}
 use Rattle.cdf_packed_puts.specs.Adding.{BlockAdded}
@@ -97,7 +98,7 @@ module _ {b now : List ℕ} {kind : Kind} {before : List VariableShape} {own own
 
 -- ---- what is taken
 
-node_acts_are : (room at : ℕ) → node_acts room at ≡ (if room == 0 then [] else Took at (vxr_bytes room) ∷ [])
+pub node_acts_are : (room at : ℕ) → node_acts room at ≡ (if room == 0 then [] else Took at (vxr_bytes room) ∷ [])
 node_acts_are zero at = refl
 node_acts_are (suc room) at = grind (arith, nat_tests)
 
@@ -208,6 +209,7 @@ module _ {b now : List ℕ} {kind : Kind} {before : List VariableShape} {own : V
     first_is = refl;
     last_is = refl;
     written = written;
+    needs = need_most plain bytes new.packed (block_end now own.vdr new) (of_added.ends_is good among w few plain rle vacant as_long stored short) stored;
     goes_on = goes_on;
     goes = goes;
     leaves = λ l i. of_added.leaves_are good among w few plain rle vacant as_long stored short l (inr i);

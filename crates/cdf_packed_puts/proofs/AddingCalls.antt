@@ -13,7 +13,7 @@ use Rattle.cdf_leaves.proofs.Own.{searchable}
 use Rattle.cdf_puts.proofs.LeafCounts.{new_room_widest}
 use Rattle.cdf_blocks.specs.Blocks.{StoredAs, block_body}
 use Rattle.cdf_blocks.proofs.NewBlock.{body_is, body_long, bytes_short}
-use Rattle.cdf_blocks.proofs.StoringCalls.{stored_room}
+use Rattle.cdf_blocks.proofs.BlockBytes.{stored_room}
 use Rattle.cdf_packed_puts.specs.Adding.{BlockAdded, HasStored, HasVacancy, IsVacancy}
 use Rattle.cdf_packed_puts.specs.declared.adding.Vacancy.{Vacancy}
 use Rattle.cdf_packed_puts.proofs.AddedGoes.{block_added}

@@ -1,7 +1,8 @@
 -- A block that has been replaced by its plain bytes with records written over is a step of a put.
 use Rattle.std.proofs.Common.{Bool, List, None, Option, Some, ap, ap₂, arith, length, max, refl, subst, suc, sym, true, ℕ, ◌*◌, ◌+◌, ◌-◌, ◌∙◌, ◌≡◌, ◌≤◌}
 use Rattle.std.specs.Prelude.{min}
-use Rattle.cdf_edits.proofs.Common.{Act, Found, Kind, Range, VariableShape, image_limit, is_compressed, leaves_of, of_le, plain_bytes, plain_size, range, record_number_limit}
+use Rattle.cdf_edits.proofs.Common.{Act, Found, Kind, Range, VariableShape, image_limit, is_compressed, leaves_of, of_le, plain_bytes, plain_size, range, record_number_limit, same_Some}
+use Rattle.cdf_edits.specs.Index.Written.{block_need}
 use Rattle.cdf_edits.specs.Index.Blocks.{covers, firsts_of, new_range, record_length}
 use Rattle.cdf_edits.proofs.Edits.LeafPieces.{IsOneOf, find_covering, in_order}
 use Rattle.cdf_edits.proofs.Edits.PlainLeaves.{leaves_ascend}
@@ -10,7 +11,7 @@ use Rattle.cdf_base.specs.Bytes.{put}
 use Rattle.cdf_edits.specs.Commands.PutSteps.{BlockWritten, Goes, Put, PutsLeaf, Stage, bytes_after, leaf_at, leaf_step, range_at, records_from}
 use Rattle.cdf_format.specs.Fields.{number}
 use Rattle.cdf_format.specs.Index.{Leaf}
-use Rattle.cdf_format.specs.Records.{vdr_vxr_head}
+use Rattle.cdf_format.specs.Records.{linked_size, vdr_vxr_head, vvr_bytes}
 use Rattle.cdf_index.specs.Finding.{index_at}
 use Rattle.cdf_leaves.proofs.Own.{searchable}
 use Rattle.cdf_model.specs.ByteOrder.{turned}
@@ -26,8 +27,9 @@ use Rattle.cdf_blocks.specs.Replaced.{BlockReplaced, stage}
 use Rattle.cdf_blocks.specs.Sites.{IsFound}
 use Rattle.cdf_blocks.specs.declared.sites.SitedLeaf.{SitedLeaf}
 use Rattle.cdf_index.specs.Sight.{seen}
-use Rattle.cdf_packed_puts.specs.Rewriting.{PlainStands, PutsInto, LeafPut, block_size, written_over}
-use Rattle.cdf_packed_puts.proofs.LeafBlock.{plain_long, plain_size_is, plain_stands}
+use Rattle.cdf_packed_puts.specs.Rewriting.{PutsInto, LeafPut, written_over}
+use Rattle.cdf_blocks.specs.Reading.{PlainStands, block_size}
+use Rattle.cdf_blocks.proofs.LeafBlock.{plain_long, plain_size_is, plain_stands}
 use Rattle.cdf_base.proofs.Puts.{length-put}
 use Rattle.cdf_puts.proofs.PutSpot.{records_long}
 use Rattle.cdf_packed_puts.proofs.RecordsOver.{piece_fits, records_are}
@@ -201,12 +203,23 @@ module _ {p : Put} {new : NewRecord} {b : List ℕ} {kind : Kind} {before : List
         next_is = ap (λ (n : ℕ). n + 1) (sym r.last_is);
       }
 
+      plain_so_long : length plain ≡ block_size next (length new.raw.items)
+      plain_so_long = ap length over ∙ over_long more (plain_bytes b own.vdr l) long ∙ ap₂ (λ (x y : ℕ). (y + 1 - x) * length new.raw.items) (sym r.first_is) (sym r.last_is)
+
+      needs : (x : Leaf) → leaf_at k own'.index ≡ Some x → block_need now own'.vdr x ≤ max linked_size (vvr_bytes (block_size x (length new.raw.items)))
+      needs x e =
+          let most : block_need now own.vdr next ≤ max linked_size (vvr_bytes (block_size next (length new.raw.items))) = subst (λ (n : ℕ). block_need now own.vdr next ≤ max linked_size (vvr_bytes n)) plain_so_long r.needs in
+          let same : next ≡ x = same_Some next x (sym has_next ∙ e) in
+          subst (λ (y : Leaf). block_need now own'.vdr y ≤ max linked_size (vvr_bytes (block_size y (length new.raw.items)))) same
+          (subst (λ (vdr : ℕ). block_need now vdr next ≤ max linked_size (vvr_bytes (block_size next (length new.raw.items)))) (sym vdr_stays) most)
+
       pub puts_on : LeafPut b now p new kind before own after k (l.last + 1)
       puts_on = record {
         own' = own';
         acts = r.acts;
         leaf = puts_leaf;
         into = into_later r.goes_on;
+        needs = needs;
         goes_on = r.goes_on;
         max_rec_is = r.max_rec_is;
         r_max_rec_is = r.r_max_rec_is;

@@ -2,6 +2,9 @@ pub mod AddedLeaf
 pub mod AddedNodes
 pub mod AddedGoes
 pub mod AddingCalls
-pub mod LeafBlock
 pub mod RecordsOver
 pub mod LeafRewritten
+pub mod RoomSteps
+pub mod PackedStep
+pub mod AddedPut
+pub mod PackedSpot

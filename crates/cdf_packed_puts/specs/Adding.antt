@@ -6,6 +6,7 @@ use Rattle.cdf_edits.specs.Commands.PutSteps.{BlockWritten, Goes, leaf_step}
 use Rattle.cdf_edits.specs.Commands.Room.{widest}
 use Rattle.cdf_edits.specs.Edits.Standing.{IsOneOf, StandsAmong}
 use Rattle.cdf_edits.specs.Index.Blocks.{Range}
+use Rattle.cdf_edits.specs.Index.Written.{block_need}
 use Rattle.cdf_edits.specs.Space.Acts.{Act}
 use Rattle.cdf_format.specs.Fields.{number}
 use Rattle.cdf_format.specs.Index.{Leaf, leaves_of}
@@ -46,7 +47,7 @@ pub record HasStored (b : List ℕ) (vacancy : Vacancy) (packed : Bool) (bytes :
   pub vacancy_of : HasVacancy b vacancy plain limit
   pub stored : StoredAs plain packed bytes
 
--- From one good image to another, in which the records have a leaf, and its block these plain bytes. All other blocks stay, and MaxRec and rMaxRec.
+-- From one good image to another, in which the records have a leaf, and its block these plain bytes, whose record needs no more than one of the plain bytes would. All other blocks stay, and MaxRec and rMaxRec.
 pub record BlockAdded (b now : List ℕ) (kind : Kind) (before : List VariableShape) (own : VariableShape) (after : List VariableShape) (first last : ℕ) (plain : List ℕ) : Type 0 where
   pub own' : VariableShape
   pub acts : List Act
@@ -57,6 +58,7 @@ pub record BlockAdded (b now : List ℕ) (kind : Kind) (before : List VariableSh
   pub first_is : new.first ≡ first
   pub last_is : new.last ≡ last
   pub written : BlockWritten b now true own.vdr acts new plain
+  pub needs : block_need now own.vdr new ≤ max linked_size (vvr_bytes (length plain))
   pub goes_on : GoesOn b now kind before own own' after acts
   pub goes : (changes : Range → Bool) (done : List Act) (next to : ℕ) → Goes (found_in b kind before own) (stage b own done next) (stage now own' acts to) changes
   pub leaves : (l : Leaf) → IsOneOf (leaves_of own.index) l → IsOneOf (leaves_of own'.index) l

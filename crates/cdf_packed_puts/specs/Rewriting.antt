@@ -1,23 +1,23 @@
 -- Records of a packed variable put into the block that has them (own).
-use Rattle.std.specs.Prelude.{◌≡◌, ◌≤◌, ℕ, ◌+◌, ◌-◌, ◌*◌, min, List, length, true, false}
+use Rattle.std.specs.Prelude.{◌≡◌, ◌≤◌, ℕ, ◌+◌, ◌-◌, ◌*◌, max, min, List, length, Some, true}
 use Rattle.cdf_base.specs.Bytes.{put}
+use Rattle.cdf_blocks.specs.Reading.{block_size}
 use Rattle.cdf_blocks.specs.Replaced.{stage}
 use Rattle.cdf_edits.specs.Commands.GreatestRecord.{r_max_rec}
-use Rattle.cdf_edits.specs.Commands.PutSteps.{Put, PutsLeaf}
+use Rattle.cdf_edits.specs.Commands.PutSteps.{Put, PutsLeaf, leaf_at}
 use Rattle.cdf_edits.specs.Edits.Standing.{StandsAmong}
 use Rattle.cdf_edits.specs.Index.Blocks.{record_length}
+use Rattle.cdf_edits.specs.Index.Written.{block_need}
 use Rattle.cdf_edits.specs.Space.Acts.{Act}
-use Rattle.cdf_format.specs.Fields.{LiesIn, number}
+use Rattle.cdf_format.specs.Fields.{number}
 use Rattle.cdf_format.specs.Index.{Leaf}
-use Rattle.cdf_format.specs.IndexRules.{unpacks_to}
-use Rattle.cdf_format.specs.Records.{cvvr_c_size, cvvr_packed, vdr_max_rec, vvr_bytes}
+use Rattle.cdf_format.specs.Records.{vdr_max_rec, linked_size, vvr_bytes}
 use Rattle.cdf_format.specs.Shape.{VariableShape, is_compressed}
-use Rattle.cdf_format.specs.Stored.{is_little, packed_bytes}
+use Rattle.cdf_format.specs.Stored.{is_little}
 use Rattle.cdf_format.specs.VariableFields.{record_bytes}
 use Rattle.cdf_format.specs.WellFormed.{Good}
 use Rattle.cdf_model.specs.ByteOrder.{turned}
-use Rattle.cdf_model.specs.Limits.{image_limit, record_number_limit}
-use Rattle.cdf_model.specs.Place.{record_limit}
+use Rattle.cdf_model.specs.Limits.{record_number_limit}
 use Rattle.cdf_model.specs.Reading.{pad_record}
 use Rattle.cdf_model.specs.declared.kinds.Kind.{Kind}
 use Rattle.cdf_puts.specs.Going.{GoesOn}
@@ -50,28 +50,17 @@ pub record SomePutInto (b : List ℕ) (new : NewRecord) : Type 0 where
   pub after : List VariableShape
   pub into : PutsInto p new b kind before own after
 
--- how many plain bytes the block of a leaf has whose records have so many each
-abbrev pub block_size : Leaf → ℕ → ℕ
-block_size l size = (l.last + 1 - l.first) * size
-
--- The block of a leaf has so many plain bytes: it lies in the image, and where it is packed, its bytes stand for just so many.
-pub record PlainStands (b : List ℕ) (l : Leaf) (size : ℕ) : Type 0 where
-  pub loose : l.packed ≡ false → l.place + vvr_bytes size ≤ length b
-  pub inside : l.packed ≡ true → LiesIn b l.place (cvvr_packed (number b l.place cvvr_c_size))
-  pub fits : l.packed ≡ true → unpacks_to (packed_bytes b l.place) size ≡ true
-  pub small : size ≤ image_limit
-  pub packed_small : l.packed ≡ true → size ≤ record_limit
-
 -- the plain bytes of a block, with the records from one on written over, up to the one that is put or to the last one
 abbrev pub written_over : NewRecord → ℕ → Leaf → List ℕ → List ℕ
 written_over new k l plain = put plain ((k - l.first) * length new.raw.items) (records_put new.raw.items new.pad.items new.rec (min new.rec l.last + 1 - k) k)
 
--- From one image to another the records from one on are put that the leaf with it has; `next` is the one behind them. The put may go on.
+-- From one image to another the records from one on are put that the leaf with it has; `next` is the one behind them. The record of its block needs no more than one of its plain bytes would. The put may go on.
 pub record LeafPut (b now : List ℕ) (p : Put) (new : NewRecord) (kind : Kind) (before : List VariableShape) (own : VariableShape) (after : List VariableShape) (k next : ℕ) : Type 0 where
   pub own' : VariableShape
   pub acts : List Act
   pub leaf : (done : List Act) → PutsLeaf p (stage b own done k) (stage now own' acts next)
   pub into : PutsInto p new now kind before own' after
+  pub needs : (l : Leaf) → leaf_at k own'.index ≡ Some l → block_need now own'.vdr l ≤ max linked_size (vvr_bytes (block_size l (length new.raw.items)))
   pub goes_on : GoesOn b now kind before own own' after acts
   pub max_rec_is : number now own.vdr vdr_max_rec ≡ number b own.vdr vdr_max_rec
   pub r_max_rec_is : r_max_rec now ≡ r_max_rec b

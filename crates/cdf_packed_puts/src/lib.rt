@@ -2,7 +2,9 @@
 #![tactic(auto)]
 
 mod adding;
+mod putting;
 mod rewriting;
 
 pub use adding::{Vacancy, add_packed};
+pub use putting::put_packed;
 pub use rewriting::rewrite_leaf;

@@ -1,5 +1,5 @@
 -- Records that get a block one after the other: by their ranges, in the room of a put, which is enough for them, and in an index.
-use Rattle.cdf_puts.proofs.Common.{least_below, Ahead, Ascending, Counted, Covering, Entries, InOrder, Leaf, List, Nodes, None, Option, Range, Some, Variable, [], ap, arith, block, block_bytes, block_count, blocks_room, cases_eq, cases_lt, count_upto, cover, covered, covers, entries_below, entries_in, entry_count, entry_firsts, false, filter, find, find_covering, first_written, firsts_of, fold, inl, inr, le-ltb, leaf, leaves_more, leaves_of, length, length-append, lower, lt-ltb, ltb, map, max, min, nat_tests, new_last, new_range, new_room, next_first, no_entry, no_node, node, node_bytes, option_map, order_with_leaf, put_room, quotient_up, range, ranges_after_put, ranges_new, ranges_of, record_length, record_number_limit, refl, shared, subst, suc, sum_by-cons, sym, times_le, uncovered, unwrap_or, vxr_bytes, widest, with_leaf, with_range, zero, ℕ, ◌*◌, ◌+◌, ◌-◌, ◌<◌, ◌∙◌, ◌∷◌, ◌≡◌, ◌≤◌, ◌⊎◌, by_leaf, least_first_past, if◌then◌else◌, nat_lt, extent, ranges_before_put, firsts_before_put}
+use Rattle.cdf_puts.proofs.Common.{least_below, Bool, Ahead, Ascending, Counted, Covering, Entries, InOrder, Leaf, List, Nodes, None, Option, Range, Some, Variable, [], ap, arith, block, block_bytes, block_count, blocks_room, cases_eq, cases_lt, count_upto, cover, covered, covers, entries_below, entries_in, entry_count, entry_firsts, filter, find, find_covering, first_written, firsts_of, fold, inl, inr, le-ltb, leaf, leaves_more, leaves_of, length, length-append, lower, lt-ltb, ltb, map, max, min, nat_tests, new_last, new_range, new_room, next_first, no_entry, no_node, node, node_bytes, option_map, order_with_leaf, quotient_up, range, ranges_after_put, ranges_new, ranges_of, record_length, record_number_limit, refl, shared, subst, suc, sum_by-cons, sym, times_le, uncovered, unwrap_or, vxr_bytes, widest, with_leaf, with_range, zero, ℕ, ◌*◌, ◌+◌, ◌-◌, ◌<◌, ◌∙◌, ◌∷◌, ◌≡◌, ◌≤◌, ◌⊎◌, by_leaf, least_first_past, if◌then◌else◌, nat_lt, extent, ranges_before_put, firsts_before_put}
 use Rattle.cdf_index.proofs.LeavesAscend.{leaves_ascend}
 use Rattle.cdf_puts.proofs.PutBytes.{found_covering}
 use Rattle.cdf_puts.proofs.LeafCounts.{entries_grow, next_firsts_with_leaf, wide_grows}
@@ -71,6 +71,16 @@ module _ {v : Variable} {firsts : List ℕ} {n k : ℕ} {rs after : List Range} 
   ahead_has r upto found again = elim (cases_eq a.next k) [
     | inl e ↦ record { next = r.last + 1; steps = a.steps - 1; upto = omega arith; enough = omega (arith, a.enough); between = λ j low high small. again j (omega arith) (omega arith); leads = (on e).0 r found }
     | inr ne ↦ record { next = a.next; steps = a.steps; upto = omega (arith, a.upto); enough = a.enough; between = λ j low. a.between j (omega arith); leads = a.leads }
+  ]
+
+  -- the records of a block up to its last one have it, too
+  ahead_past : (r : Range) → k ≤ r.last → ((j : ℕ) → k ≤ j → j ≤ r.last → find (covers j) rs ≡ Some r) → Ahead v firsts n (min (r.last + 1) (n + 1)) rs after
+  ahead_past r upto there = elim (cases_lt a.next (min (r.last + 1) (n + 1))) [
+    | inl less ↦
+        let here = there a.next a.upto (omega arith) in
+        let on = (next_step v firsts n a.steps a.next rs after (omega arith) (omega (arith, a.enough)) a.leads).0 r here in
+        record { next = r.last + 1; steps = a.steps - 1; upto = omega arith; enough = omega (arith, a.enough); between = λ j low high small. absurd (omega arith); leads = on }
+    | inr ge ↦ record { next = a.next; steps = a.steps; upto = ge; enough = a.enough; between = λ j low. a.between j (omega arith); leads = a.leads }
   ]
 
   -- the next one is the first behind the new block, or that behind the last
@@ -186,6 +196,21 @@ covering_starts v index n small same nexts o =
 pub covering_done : {v : Variable} {index index' : Nodes} {n k taken : ℕ} → Covering v index index' n k taken → n < k → ranges_of index' ≡ ranges_after_put v index n
 covering_done {v = v} {index = index} {n = n} c lt = let u = c.ahead.upto in sym (end_step v (firsts_of index) n c.ahead.steps c.ahead.next _ (omega arith)) ∙ c.ahead.leads
 
+-- another index with the same ranges, Firsts, entries and widths
+pub covering_same : {v : Variable} {index index' index'' : Nodes} {n k taken : ℕ} → Covering v index index' n k taken → InOrder 0 record_number_limit index'' → ranges_of index'' ≡ ranges_of index' → firsts_of index'' ≡ firsts_of index' → widest index'' ≡ widest index' → entries_in index'' ≡ entries_in index' → Covering v index index'' n k taken
+covering_same {v = v} {index = index} {index'' = index''} {n = n} {k = k} {taken = taken} c order ranges firsts wide entries =
+    let covers = ap (covered (first_written v n) n) ranges in
+    record {
+      ordered = order;
+      from = c.from;
+      ahead = subst (λ (rs : List Range). Ahead v (firsts_of index) n k rs (ranges_after_put v index n)) (sym ranges) c.ahead;
+      nexts = λ m le. ap (next_first m) firsts ∙ c.nexts m le;
+      as_wide = omega (arith, wide, c.as_wide);
+      grown = omega (arith, entries, covers, c.grown);
+      fits = c.fits;
+      counted = λ le. (let was = c.counted le in record { records = was.records; blocks = was.blocks; records_are = covers ∙ was.records_are; blocks_are = was.blocks_are; bytes_are = was.bytes_are });
+    }
+
 -- at most as many entries come as records had no block
 pub covering_entries : {v : Variable} {index index' : Nodes} {n k taken : ℕ} → Covering v index index' n k taken → ranges_before_put v index n ≡ ranges_of index → entries_in index' ≤ entries_in index + uncovered v index n
 covering_entries {v = v} {index = index} {index' = index'} {n = n} c same =
@@ -202,6 +227,10 @@ module _ {v : Variable} {index index' : Nodes} {n k taken : ℕ} (c : Covering v
   ascends : Ascending 0 (suc record_number_limit) (leaves_of index')
   ascends = leaves_ascend 0 record_number_limit index' c.ordered (omega arith)
 
+  -- so it is as far as a later record, where no block is added
+  counted_on : (k' : ℕ) → k ≤ k' → Counted v index index' n k' taken
+  counted_on k' later = record { records = so_far.records; blocks = so_far.blocks; records_are = so_far.records_are; blocks_are = omega (arith, so_far.blocks_are, times_le (count_upto k fs) (count_upto k' fs) (block_count v) (count_more k k' fs later)); bytes_are = so_far.bytes_are }
+
   -- a record that has a block
   pub covering_has : (l : Leaf) → find (λ (leaf : Leaf). covers k (range leaf.first leaf.last)) (leaves_of index') ≡ Some l → Covering v index index' n (k + 1) taken
   covering_has l e =
@@ -209,8 +238,20 @@ module _ {v : Variable} {index index' : Nodes} {n k taken : ℕ} (c : Covering v
       let rng = λ (leaf : Leaf). range leaf.first leaf.last in
       let found = λ (j : ℕ) (e : find (λ (leaf : Leaf). covers j (range leaf.first leaf.last)) (leaves_of index') ≡ Some l). (find_range j (leaves_of index') ∙ ap (option_map rng) e) in
       let ahead = ahead_has c.ahead le (rng l) is.1.1 (found k e) (λ j low high none. let there = found j (find_covering j 0 (suc record_number_limit) (leaves_of index') ascends l is.0 (omega (arith, is.1.0)) high) in cc) in
-      let counted : Counted v index index' n (k + 1) taken = record { records = so_far.records; blocks = so_far.blocks; records_are = so_far.records_are; blocks_are = omega (arith, so_far.blocks_are, times_le (count_upto k fs) (count_upto (k + 1) fs) (block_count v) (count_more k (k + 1) fs (omega arith))); bytes_are = so_far.bytes_are } in
+      let counted : Counted v index index' n (k + 1) taken = counted_on (k + 1) (omega arith) in
       grind (arith, c, ahead, counted)
+
+  -- a leaf that has the record, up to its last one
+  pub covering_past : (l : Leaf) → find (λ (leaf : Leaf). covers k (range leaf.first leaf.last)) (leaves_of index') ≡ Some l → Covering v index index' n (min (l.last + 1) (n + 1)) taken
+  covering_past l e =
+      let is = found_covering k (leaves_of index') l e in
+      let rng = λ (leaf : Leaf). range leaf.first leaf.last in
+      let there = λ (j : ℕ) (low : k ≤ j) (high : j ≤ l.last). (find_range j (leaves_of index') ∙ ap (option_map rng) (find_covering j 0 (suc record_number_limit) (leaves_of index') ascends l is.0 (omega (arith, is.1.0)) high)) in
+      let past : k ≤ min (l.last + 1) (n + 1) = omega (arith, is.1.1) in
+      let ahead = ahead_past c.ahead le (rng l) is.1.1 there in
+      let nexts = λ (m : ℕ) (low : min (l.last + 1) (n + 1) ≤ m). c.nexts m (omega arith) in
+      let counted = λ (more : min (l.last + 1) (n + 1) ≤ n). counted_on (min (l.last + 1) (n + 1)) past in
+      record { ordered = c.ordered; from = omega (arith, c.from); ahead = ahead; nexts = nexts; as_wide = c.as_wide; grown = c.grown; fits = c.fits; counted = counted }
 
   -- one that has none gets a block that ends here
   abbrev last : ℕ
@@ -219,7 +260,7 @@ module _ {v : Variable} {index index' : Nodes} {n k taken : ℕ} (c : Covering v
   pub covering_ends : Ends k (next_first k (firsts_of index')) (block_count v) last
   covering_ends = ends v (firsts_of index') k (omega arith)
 
-  module _ (same : ranges_before_put v index n ≡ ranges_of index) (loose : v.rle ≡ false) (vacant : find (λ (leaf : Leaf). covers k (range leaf.first leaf.last)) (leaves_of index') ≡ None) where
+  module _ (same : ranges_before_put v index n ≡ ranges_of index) (vacant : find (λ (leaf : Leaf). covers k (range leaf.first leaf.last)) (leaves_of index') ≡ None) where
     none : find (covers k) (ranges_of index') ≡ None
     none = find_range k (leaves_of index') ∙ ap (option_map _) vacant
 
@@ -227,15 +268,15 @@ module _ {v : Variable} {index index' : Nodes} {n k taken : ℕ} (c : Covering v
     one_left : so_far.records + 1 ≤ uncovered v index n
     one_left = omega (arith, uncovered_is v index n same, (covered_most (first_written v n) n k 0 (suc record_number_limit) (leaves_of index') ascends).1 c.from (omega arith) le none, so_far.records_are)
 
-    in_room : (so_far.records + (last + 1 - k)) * record_length v + suc so_far.blocks * (28 + vxr_bytes (widest index)) ≤ put_room v index n
+    in_room : (so_far.records + (last + 1 - k)) * record_length v + suc so_far.blocks * (28 + vxr_bytes (widest index)) ≤ blocks_room v index (uncovered v index n)
     in_room = omega (arith, room_enough v index so_far.records (last + 1 - k) so_far.blocks (count_upto k fs) (uncovered v index n) one_left covering_ends.2 so_far.blocks_are (omega (arith, count_most k fs, firsts_count index)))
 
-    pub covering_room : taken + block_bytes v k last + vxr_bytes (widest index') ≤ put_room v index n
+    pub covering_room : taken + block_bytes v k last + vxr_bytes (widest index') ≤ blocks_room v index (uncovered v index n)
     covering_room = omega (arith, in_room, so_far.bytes_are, c.as_wide)
 
-    module _ (place at : ℕ) (narrow : new_room k index' ≤ widest index') where
+    module _ (place at : ℕ) (packed : Bool) (narrow : new_room k index' ≤ widest index') where
       abbrev new : Leaf
-      new = leaf k last place false
+      new = leaf k last place packed
 
       abbrev taken' : ℕ
       taken' = taken + block_bytes v k last + node_bytes k index'
@@ -268,7 +309,7 @@ module _ {v : Variable} {index index' : Nodes} {n k taken : ℕ} (c : Covering v
           let more = ap (covered (first_written v n) n) ranges_are ∙ covered_with (first_written v n) n (range k last) (ranges_of index') in
           omega (arith, by_leaf (entries_grow new at) index', more, c.grown, c.from, covering_ends.0, le)
 
-      pub covering_leaf : Covering v index (with_leaf (leaf k (new_last v index' k) place false) at index') n (min (new_last v index' k + 1) (n + 1)) (taken + block_bytes v k (new_last v index' k) + node_bytes k index')
+      pub covering_leaf : Covering v index (with_leaf (leaf k (new_last v index' k) place packed) at index') n (min (new_last v index' k + 1) (n + 1)) (taken + block_bytes v k (new_last v index' k) + node_bytes k index')
       covering_leaf =
           let ends = covering_ends in
           let ahead = subst (λ (rs : List Range). Ahead v fs n (min (last + 1) (n + 1)) rs (ranges_after_put v index n)) (sym ranges_are)

@@ -29,6 +29,10 @@ end_after_acts l (Gave place size ∷ more) t = absurd t
 pub longer_by : (b now : List ℕ) (acts : List Act) → ActsFollow b now acts → OnlyTakes acts → length now ≤ length b + taken_bytes acts
 longer_by b now acts f t = let e = f.left.end_is in let l = end_after_acts (space_before b) acts t in omega arith
 
+-- where a record was taken and another one freed then, by no more than the one that was taken
+pub longer_moved : (b now : List ℕ) (place need old size : ℕ) → ActsFollow b now (Took place need ∷ Gave old size ∷ []) → length now ≤ length b + need
+longer_moved b now place need old size f = let e = f.left.end_is in let l = end_after_acts (space_before b) (Took place need ∷ []) tt in let one = one_taken place need [] in omega arith
+
 pub none_without_bytes : (l : SpaceLeft) (acts : List Act) → AreActs l acts → OnlyTakes acts → taken_bytes acts ≤ 0 → acts ≡ []
 none_without_bytes l [] are t le = refl
 none_without_bytes l (Took place need ∷ more) are t le = let e = one_taken place need more in let some = are.0.0 in absurd (omega arith)

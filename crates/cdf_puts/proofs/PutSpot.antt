@@ -68,16 +68,16 @@ module _ {b : List ℕ} {kind : Kind} {before : List VariableShape} {own : Varia
         let goes : GoesOn now now' kind before own' (record own' { index = with_leaf new at own'.index }) after step = leaf_goes_on good among w holds vacant (says.as_long ∙ ap (λ (n : ℕ). (last + 1 - k) * n) (sym (later_size so.start.good so.start.among so.goes))) short (loose_now so) in
         let bytes : taken_bytes (acts ++ step) ≡ taken_bytes acts + block_bytes (variable_of b own) k last + node_bytes k own'.index = omega (arith, taken_sum acts step, leaf_bytes place (8 + length body) (new_room k own'.index) at, body_long body records holds, says.as_long) in
         let wide = new_room_widest now (shape now).records 8 k own'.index (has good among).indexed.has_nodes (fits good among).1 in
-        let covers : Covering (variable_of b own) own.index (with_leaf new at own'.index) r (min (last + 1) (r + 1)) (taken_bytes (acts ++ step)) = rw (bytes, is) (covering_leaf so.covers so.start.small more so.start.same_ranges so.start.loose vacant.uncovered place at wide) in
+        let covers : Covering (variable_of b own) own.index (with_leaf new at own'.index) r (min (last + 1) (r + 1)) (taken_bytes (acts ++ step)) = rw (bytes, is) (covering_leaf so.covers so.start.small more so.start.same_ranges vacant.uncovered place at false wide) in
         rw (← upto) (search (arith, so, short, ← so.goes.vdr_is, leaf_max_rec good among w, leaf_r_max_rec good among w, goes_then so.start.good so.start.among so.goes goes so.takes (taking good among w).takes, takes_both acts step so.takes (taking good among w).takes, index_added so more is vacant holds says w goes.good goes.among, blocks_added so more is vacant holds says w goes.good goes.among))
 
 -- ---- how many records a new block has
 
-most_within : (v : Variable) (r : ℕ) → (1 ≤ most_in_block v r) × (most_in_block v r ≤ 1048576)
+pub most_within : (v : Variable) (r : ℕ) → (1 ≤ most_in_block v r) × (most_in_block v r ≤ 1048576)
 most_within v r = grind (arith, nat_tests, one_at_least v, div-le_self 1048576 (record_length v))
 
 -- up to MaxRec it is one record, which is the one that is put
-last_as : (v : Variable) (index : Nodes) (k r most : ℕ) → most ≡ most_in_block v r → first_written v r ≤ k → k ≤ r → k < next_first k (firsts_of index) → last_in_new most index k ≡ new_last v index k
+pub last_as : (v : Variable) (index : Nodes) (k r most : ℕ) → most ≡ most_in_block v r → first_written v r ≤ k → k ≤ r → k < next_first k (firsts_of index) → last_in_new most index k ≡ new_last v index k
 last_as v index k r most is from upto before = let first : min r (extent v.max_rec) ≤ k = omega (arith, written_from v r) in grind (arith, nat_tests)
 
 -- a node more is no wider than the widest
@@ -165,7 +165,7 @@ module _ {b now : List ℕ} {kind : Kind} {before : List VariableShape} {own : V
         pub room_after : {mid : List ℕ} {bound : ℕ} → mid ≡ now → bound ≡ limit → length mid + (8 + length body) + vxr_bytes (widest (index_at mid (number mid new.vdr vdr_vxr_head))) ≤ bound
         room_after same bounded =
             let bytes = records_long new.raw.items new.pad.items new.rec (record_bytes b own.vdr) p.start.raw_long p.pad_long (end + 1 - k) k ∙ ap (λ (n : ℕ). (n + 1 - k) * record_bytes b own.vdr) ends_at in
-            let need = covering_room so.covers so.start.small more so.start.same_ranges so.start.loose none in
+            let need = covering_room so.covers so.start.small more so.start.same_ranges none in
             rw (same, bounded, searched.1) (omega (arith, longer_by b now is.acts so.goes.follow so.takes, body_long body (records_put new.raw.items new.pad.items new.rec (end + 1 - k) k) says, bytes, need))
 
         pub added_on : {now' : List ℕ} → AddsOn now now' new.vdr k end body → limit ≤ image_limit → GoesOnTo b now now' kind before own after new k (min end new.rec + 1) is

@@ -1,8 +1,8 @@
--- How a put gives its records a block, one after the other, and how many bytes that takes by then (own; of a variable whose blocks are not packed, and of which nothing has to be cut first).
+-- How a put gives its records a block, one after the other, and how many bytes that takes at most by then (own; of a variable of which nothing has to be cut first).
 use Rattle.std.specs.Prelude.{◌≡◌, ◌≤◌, ◌<◌, ℕ, suc, ◌+◌, ◌-◌, ◌*◌, ◌==◌, max, List, [], ◌∷◌, nat_le, if◌then◌else◌, find, None}
 use Rattle.cdf_model.specs.DataSet.{Variable}
 use Rattle.cdf_model.specs.Limits.{record_number_limit}
-use Rattle.cdf_edits.specs.Commands.Room.{entries_in, widest, put_room}
+use Rattle.cdf_edits.specs.Commands.Room.{blocks_room, entries_in, uncovered, widest}
 use Rattle.cdf_edits.specs.Index.Blocks.{Range, ranges_of, covers, covered, record_length, block_count, firsts_of, next_first, new_range, cover, first_written, ranges_after_put}
 use Rattle.cdf_edits.specs.Index.Grown.{new_room}
 use Rattle.cdf_format.specs.Index.{Nodes}
@@ -43,7 +43,7 @@ pub record Ahead (v : Variable) (firsts : List ℕ) (n k : ℕ) (ranges after : 
   pub leads : cover steps v firsts next n ranges ≡ after
 
 -- Record n is put. The index was `index` and is `index'` by now: what is written before record k has its block, and so many bytes were taken for it.
--- What is left to do leads to the ranges that the put leaves; a First past k is one of `index`; no node is wider than its widest, and at most as many entries came as records got a block; and the room of the put is enough.
+-- What is left to do leads to the ranges that the put leaves; a First past k is one of `index`; no node is wider than its widest, and at most as many entries came as records got a block; and the room for new blocks is enough.
 pub record Covering (v : Variable) (index index' : Nodes) (n k taken : ℕ) : Type 0 where
   pub ordered : InOrder 0 record_number_limit index'
   pub from : first_written v n ≤ k
@@ -51,5 +51,5 @@ pub record Covering (v : Variable) (index index' : Nodes) (n k taken : ℕ) : Ty
   pub nexts : (m : ℕ) → k ≤ m → next_first m (firsts_of index') ≡ next_first m (firsts_of index)
   pub as_wide : widest index' ≤ widest index
   pub grown : entries_in index' + covered (first_written v n) n (ranges_of index) ≤ entries_in index + covered (first_written v n) n (ranges_of index')
-  pub fits : taken ≤ put_room v index n
+  pub fits : taken ≤ blocks_room v index (uncovered v index n)
   pub counted : k ≤ n → Counted v index index' n k taken

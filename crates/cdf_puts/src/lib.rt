@@ -8,6 +8,6 @@ mod searching;
 mod starts;
 
 pub use known_index::{IndexBound, KnownIndex};
-pub use putting::{NewRecord, put_records};
+pub use putting::{NewRecord, Progress, last_of_new, put_records};
 pub use searching::{Search, find_leaf};
 pub use starts::Starts;

@@ -87,7 +87,7 @@ impl NewRecord {
 
 /// The last record of a new block from the one on that is searched for, which ends before the next First.
 #[tactic(auto, using(crate::proofs::CoveringRanges::bound_is, crate::proofs::CoveringRanges::next_past))]
-fn last_of_new<A: Area>(area: &mut A, search: &Search, most: u32) -> Result<u32, AreaError>
+pub fn last_of_new<A: Area>(area: &mut A, search: &Search, most: u32) -> Result<u32, AreaError>
     requires search { IsSearch (A.image area.old) search.now }
     requires short { length (A.image area.old) ≤ image_limit }
     requires within { search.now.rec ≤ record_number_limit }
