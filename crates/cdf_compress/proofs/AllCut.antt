@@ -17,6 +17,7 @@ use Rattle.cdf_puts.specs.Going.{GoesOn}
 use Rattle.cdf_cuts.proofs.ChainKept.{top_left}
 use Rattle.cdf_cuts.proofs.CutAll.{all_gone}
 use Rattle.cdf_cuts.proofs.CutFreed.{cut_marks, edit, frees, freed_avoids, types, vdr_apart, whole}
+use Rattle.cdf_cuts.proofs.KeptLeaf.{IsPlainOrWhole}
 use Rattle.cdf_cuts.proofs.CutGoes.{cut_goes, freed_now, long_now, same_records, tail_now}
 use Rattle.cdf_cuts.proofs.CutLinked.{freed_in}
 use Rattle.cdf_cuts.proofs.CutWhole.{rest_order}
@@ -49,12 +50,12 @@ module _ {b now : List ℕ} {kind : Kind} {before : List VariableShape} {own : V
   none_left : rest ≡ no_node
   none_left = all_gone own.index was_order
 
-  no_leaf : Each (λ (l : Leaf). l.packed ≡ false) (leaves_of no_node)
+  no_leaf : Each (IsPlainOrWhole (leaves_of own.index)) (leaves_of no_node)
   unfolding leaves_of
   no_leaf = tt
 
   goes_on : GoesOn b now kind before own left after acts
-  goes_on = cut_goes good at order c.is_linked short now c.given (rest_order 0 2147483646 false own.index order was_order) (subst (λ (y : Nodes). Each (λ (l : Leaf). l.packed ≡ false) (leaves_of y)) (sym none_left) no_leaf)
+  goes_on = cut_goes good at order c.is_linked short now c.given (rest_order 0 2147483646 false own.index order was_order) (subst (λ (y : Nodes). Each (IsPlainOrWhole (leaves_of own.index)) (leaves_of y)) (sym none_left) no_leaf)
 
   none_taken : taken acts ≡ []
   none_taken = taken-gave b freed

@@ -14,6 +14,7 @@ use Rattle.cdf_cuts.proofs.BlocksMoved.{leaf_stays, times_add}
 use Rattle.cdf_cuts.proofs.ClosedUp.{fallen_high, fallen_rises}
 use Rattle.cdf_cuts.proofs.CutFreed.{own_most, plain_left}
 use Rattle.cdf_cuts.proofs.CutGoes.{block_stays, cut_goes, freed_now, long_now, max_rec_now, nodes_follow, r_max_rec_now, sizes_now, tail_now}
+use Rattle.cdf_cuts.proofs.KeptLeaf.{IsPlainOrWhole}
 use Rattle.cdf_cuts.proofs.CutStay.{nodes_left, to_left}
 use Rattle.cdf_cuts.proofs.CutWhole.{meets, rest_order}
 use Rattle.cdf_cuts.proofs.CutWords.{cut}
@@ -44,7 +45,7 @@ module _ {b mid : List ℕ} {kind : Kind} {before : List VariableShape} {own : V
   plain : (l : Leaf) → IsOneOf leaves l → PlainLeaf b size l
   plain l i = plain_leaf good at loose l i
 
-  unpacked : Each (λ (l : Leaf). l.packed ≡ false) (leaves_of (cut (closing first last) own.index))
+  unpacked : Each (IsPlainOrWhole leaves) (leaves_of (cut (closing first last) own.index))
   unpacked = plain_left (closing first last) own.index (each_of (λ (l : Leaf). l.packed ≡ false) leaves (λ l i. (plain l i).plain))
 
   in_order : InOrder 0 record_number_limit (cut (closing first last) own.index)

@@ -16,9 +16,15 @@ use Rattle.cdf_index.specs.Adding.{Counts}
 use Rattle.cdf_index.specs.Replacing.{with_index}
 use Rattle.cdf_cuts.specs.Linking.{IsLinked}
 use Rattle.cdf_cuts.proofs.CutLeaves.{each_left}
-use Rattle.cdf_edits.proofs.Edits.Common.{apart}
+use Rattle.cdf_edits.proofs.Edits.Common.{apart, behind_in, fits}
+use Rattle.cdf_edits.proofs.Edits.LeafPieces.{place_in as leaf_place_in}
+use Rattle.cdf_index.proofs.NewIndex.{block_kept}
+use Rattle.cdf_index.proofs.OwnRecords.{block_type}
+use Rattle.cdf_cuts.proofs.Common.{Kept}
+use Rattle.cdf_cuts.proofs.KeptLeaf.{AsMany, IsPlainOrWhole, many_ruled}
+use Rattle.cdf_cuts.proofs.Rewriting.{kept_then}
 use Rattle.cdf_cuts.proofs.Common.{◌*◌}
-use Rattle.cdf_cuts.proofs.CutLinked.{has_rest, freed_in, freed_own, freed_typed, ie, left_free, linked_edit, linked_shape, linked_sound, link_tests, used_most}
+use Rattle.cdf_cuts.proofs.CutLinked.{has_rest, freed_in, freed_own, freed_typed, heads, ie, left_free, linked_edit, linked_index, linked_shape, linked_sound, link_tests, used_most}
 use Rattle.cdf_cuts.proofs.CutWords.{cut}
 use Rattle.cdf_cuts.proofs.PlanPlaces.{plan_frees}
 use Rattle.cdf_index.proofs.Common.{Each-in, either}
@@ -181,15 +187,44 @@ module _ {b linked : List ℕ} {kind : Kind} {before : List VariableShape} {own 
         let high = (tile_lies now 8 (length now) s.records m edit.tiled_now there).high in
         rw (of_le (number now m vxr_n_used_entries) (room_at now m) count, of_le (room_at now m) signed_limit (omega (arith, fit, high, freed_long frees, short)), of_le (28 + 16 * room_at now m) (size_at now m) fit) refl
 
-    -- where no block that stays is packed
-    module _ (in_order : InOrder 0 record_number_limit rest) (plain_now : Each (λ (l : Leaf). l.packed ≡ false) (leaves_of rest)) (short : length b ≤ image_limit) where
+    -- ---- the blocks
+
+    pub kept_used : (m type : ℕ) → In m s.records → type_at b m ≡ type → type ≢ gdr_type → type ≢ uir_type → (In m freed → ⊥) → Kept linked now m
+    kept_used m type i is g u out = others_kept frees m i (λ e. g (sym is ∙ sym (types_same m i) ∙ e)) (λ e. u (sym is ∙ sym (types_same m i) ∙ e)) out
+      where
+        types_same : (m : ℕ) → In m s.records → type_at linked m ≡ type_at b m
+        types_same m i = elim (x.edit.kind m i) [ inl k ↦ k.1 | inr k ↦ elim k [ inl f ↦ absurd (f.0 i) | inr none ↦ absurd none ] ]
+
+    -- a block that is not freed stays
+    pub block_left : (m : ℕ) → In m (places_of (leaves_of own.index)) → (In m freed → ⊥) → Kept b now m
+    block_left m i out =
+        let there = behind_in good at m (block_behind own m i) in
+        let k = block_kept good at (linked_index good at x) m i in
+        let typed_block = block_type b s.records own.vdr (leaves_of own.index) (fits good at).2 m i in
+        let l : Kept linked now m = elim typed_block [
+          | inl t ↦ kept_used m vvr_type there t (apart vvr_type gdr_type refl) (apart vvr_type uir_type refl) out
+          | inr t ↦ kept_used m cvvr_type there t (apart cvvr_type gdr_type refl) (apart cvvr_type uir_type refl) out
+        ] in
+        kept_then k ((heads good at x).sizes m there) l
+
+    -- where each block that stays is not packed, or keeps all its records
+    module _ (in_order : InOrder 0 record_number_limit rest) (ruled_now : Each (IsPlainOrWhole (leaves_of own.index)) (leaves_of rest)) (short : length b ≤ image_limit) where
+      plain_ruled : (l : Leaf) → IsOneOf (leaves_of rest) l → l.packed ≡ false → Hold (leaf_rows now s.records own.vdr l)
+      plain_ruled l i p =
+          let f = of_each (LeafFits now s.records own.vdr) (leaves_of rest) l fits_then.2 i in
+          let named = of_each (Named now s.records) (leaves_of rest) l (leaves_named now s.records 8 rest stands.has_nodes) i in
+          let none : is_a now s.records cvvr_type l.place ≡ false = (let t = named.1 ∙ p in grind (arith, t)) in
+          leaf_held now s.records own.vdr l none (rw p at f.1)
+
+      whole_ruled : (l : Leaf) → IsOneOf (leaves_of rest) l → AsMany (leaves_of own.index) l → Hold (leaf_rows now s.records own.vdr l)
+      whole_ruled l i w =
+          let there = subst (λ (p : ℕ). In p (places_of (leaves_of rest))) w.place_is (leaf_place_in (leaves_of rest) l i) in
+          many_ruled good at whole l w (block_left w.old.place (leaf_place_in (leaves_of own.index) w.old w.one) (stays_used w.old.place (inr there)))
+
       leaf_ruled : (l : Leaf) → IsOneOf (leaves_of rest) l → (is_block now s.records l.place ≡ true) × Hold (leaf_rows now s.records own.vdr l)
       leaf_ruled l i =
           let f = of_each (LeafFits now s.records own.vdr) (leaves_of rest) l fits_then.2 i in
-          let p = of_each (λ (m : Leaf). m.packed ≡ false) (leaves_of rest) l plain_now i in
-          let named = of_each (Named now s.records) (leaves_of rest) l (leaves_named now s.records 8 rest stands.has_nodes) i in
-          let none : is_a now s.records cvvr_type l.place ≡ false = (let t = named.1 ∙ p in grind (arith, t)) in
-          (f.0, leaf_held now s.records own.vdr l none (rw p at f.1))
+          (f.0, elim (of_each (IsPlainOrWhole (leaves_of own.index)) (leaves_of rest) l ruled_now i) [ inl p ↦ plain_ruled l i p | inr w ↦ whole_ruled l i w ])
 
       rows : Hold (index_rows now s.records own.vdr rest)
       rows = index_rules now s.records own.vdr rest in_order (room_now short) leaf_ruled
@@ -203,5 +238,5 @@ module _ {b linked : List ℕ} {kind : Kind} {before : List VariableShape} {own 
           of_index.good_now good at whole rows (ap is_max_rec max_kept ∙ (own_rules good at).0.1.1.1.1.1.1.1.0) owned_now end (omega (arith, freed_long frees, short))
 
 -- no block that stays is packed where none was
-pub plain_left : (span : Span) (nodes : Nodes) → Each (λ (l : Leaf). l.packed ≡ false) (leaves_of nodes) → Each (λ (l : Leaf). l.packed ≡ false) (leaves_of (cut span nodes))
-plain_left span nodes plain = each_left span (λ (l : Leaf). l.packed ≡ false) (λ (l : Leaf). l.packed ≡ false) (λ l p m left. left.packed_is ∙ p) nodes plain
+pub plain_left : (span : Span) (nodes : Nodes) → Each (λ (l : Leaf). l.packed ≡ false) (leaves_of nodes) → Each (IsPlainOrWhole (leaves_of nodes)) (leaves_of (cut span nodes))
+plain_left span nodes plain = each_left span (λ (l : Leaf). l.packed ≡ false) (IsPlainOrWhole (leaves_of nodes)) (λ l p m left. inl (left.packed_is ∙ p)) nodes plain

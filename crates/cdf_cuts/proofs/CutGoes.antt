@@ -23,8 +23,9 @@ use Rattle.cdf_puts.proofs.GoesThen.{goes_by}
 use Rattle.cdf_puts.specs.Going.{GoesOn}
 use Rattle.cdf_cuts.proofs.ChainKept.{last_is, whole_is}
 use Rattle.cdf_cuts.proofs.CutDone.{each_from, may_all}
-use Rattle.cdf_cuts.proofs.CutFreed.{acts, cut_marks, edit, frees, good_now, max_kept, stays_used, types, vdr_apart, whole}
-use Rattle.cdf_cuts.proofs.CutLinked.{freed_in, freed_own, heads, linked_index}
+use Rattle.cdf_cuts.proofs.CutFreed.{acts, block_left, cut_marks, edit, frees, good_now, kept_used, max_kept, stays_used, types, vdr_apart, whole}
+use Rattle.cdf_cuts.proofs.CutLinked.{freed_in, freed_own, heads}
+use Rattle.cdf_cuts.proofs.KeptLeaf.{IsPlainOrWhole}
 use Rattle.cdf_cuts.proofs.Rewriting.{kept_then}
 use Rattle.cdf_cuts.proofs.CutWords.{cut}
 use Rattle.cdf_cuts.proofs.PlanPlaces.{links_stay, plan_places, rewrites_stay}
@@ -157,17 +158,11 @@ module _ {b linked : List ℕ} {kind : Kind} {before : List VariableShape} {own 
     pub same_records : (shape now).records ≡ s.records
     same_records = freed_records freeing
 
-    kept_used : (m type : ℕ) → In m s.records → type_at b m ≡ type → type ≢ gdr_type → type ≢ uir_type → (In m freed → ⊥) → Kept linked now m
-    kept_used m type i is g u out = others_kept freeing m i (λ e. g (sym is ∙ sym (types_same m i) ∙ e)) (λ e. u (sym is ∙ sym (types_same m i) ∙ e)) out
-      where
-        types_same : (m : ℕ) → In m s.records → type_at linked m ≡ type_at b m
-        types_same m i = elim (x.edit.kind m i) [ inl k ↦ k.1 | inr k ↦ elim k [ inl f ↦ absurd (f.0 i) | inr none ↦ absurd none ] ]
-
     node_kept : (m : ℕ) → In m (nodes_of rest) → Kept linked now m
-    node_kept m i = let n = node_there m (was_node m i) in kept_used m vxr_type n.0 n.1 (apart vxr_type gdr_type refl) (apart vxr_type uir_type refl) (stays_used good at order x m (inl i))
+    node_kept m i = let n = node_there m (was_node m i) in kept_used good at order x now given m vxr_type n.0 n.1 (apart vxr_type gdr_type refl) (apart vxr_type uir_type refl) (stays_used good at order x m (inl i))
 
     vdr_kept : Kept linked now own.vdr
-    vdr_kept = kept_used own.vdr (type_in (variables_chain kind)) (tile good at) (typed good at) (vdr_apart kind).0 (vdr_apart kind).1 vdr_stays
+    vdr_kept = kept_used good at order x now given own.vdr (type_in (variables_chain kind)) (tile good at) (typed good at) (vdr_apart kind).0 (vdr_apart kind).1 vdr_stays
 
     size_linked : (m : ℕ) → In m s.records → size_at linked m ≡ size_at b m
     size_linked m i = (heads good at x).sizes m i
@@ -222,17 +217,9 @@ module _ {b linked : List ℕ} {kind : Kind} {before : List VariableShape} {own 
 
     -- a block that is not freed stays
     pub block_stays : (m : ℕ) → In m (places_of (leaves_of own.index)) → (In m freed → ⊥) → Kept b now m
-    block_stays m i out =
-        let there = behind_in good at m (block_behind own m i) in
-        let k = block_kept good at (linked_index good at x) m i in
-        let typed_block = block_type b s.records own.vdr (leaves_of own.index) (fits good at).2 m i in
-        let l : Kept linked now m = elim typed_block [
-          | inl t ↦ kept_used m vvr_type there t (apart vvr_type gdr_type refl) (apart vvr_type uir_type refl) out
-          | inr t ↦ kept_used m cvvr_type there t (apart cvvr_type gdr_type refl) (apart cvvr_type uir_type refl) out
-        ] in
-        kept_then k (size_linked m there) l
+    block_stays m i out = block_left good at order x now given m i out
 
-    module _ (in_order : InOrder 0 record_number_limit rest) (plain : Each (λ (l : Leaf). l.packed ≡ false) (leaves_of rest)) where
+    module _ (in_order : InOrder 0 record_number_limit rest) (ruled : Each (IsPlainOrWhole (leaves_of own.index)) (leaves_of rest)) where
       abbrev marks : List Mark
       marks = index_marks kind own.vdr (nodes_of own.index) (record { place = 12; width = length b })
 
@@ -251,7 +238,7 @@ module _ {b linked : List ℕ} {kind : Kind} {before : List VariableShape} {own 
 
       pub cut_goes : GoesOn b now kind before own (record own { index = rest }) after (gave b freed)
       cut_goes =
-          goes_by good at (whole good at order x now given) (good_now good at order x now given in_order plain short) (acts good at order x now given)
+          goes_by good at (whole good at order x now given) (good_now good at order x now given in_order ruled short) (acts good at order x now given)
           (keeps_fields (sound good at) (edit good at order x now given) same_records s.gdr gdr_type (r_max_rec_field kind ++ space_fields) (gdr_in b s h) (gdr_typed b s h) tests.heads_clear tests.inside)
           (λ m i free. listed m i)
           (λ m i is out. keeps_away (sound good at) (edit good at order x now given) same_records m uir_type (Only []) i is (Away-append marks (freeing_marks types s.unused freed (length b)) uir_type m (unused_away m) (loose_away s.unused freed (length b) m out)))

@@ -6,6 +6,7 @@ pub mod CutCalls
 pub mod CutDone
 pub mod CutFollows
 pub mod CutFreed
+pub mod KeptLeaf
 pub mod CutLaws
 pub mod CutLeaves
 pub mod CutLinked

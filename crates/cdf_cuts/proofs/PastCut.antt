@@ -1,14 +1,16 @@
--- All records from a first one on were cut out of the index of a variable of a good image, of which no block is packed: all that this leaves of the image.
-use Rattle.cdf_cuts.proofs.Common.{Each, In, Leaf, List, Nodes, Range, [], arith, cases_lt, false, freed_of, if◌then◌else◌, image_limit, inl, inr, kept_by, leaves_of, length, nodes_of, number, places_of, plan_of, range, refl, room_at, size_at, subst, sym, true, used_count, ℕ, ◌+◌, ◌<◌, ◌∙◌, ◌∷◌, ◌≡◌, ◌≤◌, ◌⊎◌}
+-- All records from a first one on were cut out of the index of a variable of a good image, of which no packed block is cut in part: all that this leaves of the image.
+use Rattle.cdf_cuts.proofs.Common.{Each, In, Leaf, List, Nodes, Range, [], arith, cases_lt, false, freed_of, if◌then◌else◌, image_limit, inl, inr, kept_by, leaves_of, length, nodes_of, number, places_of, plan_of, range, refl, room_at, size_at, subst, suc, sym, true, used_count, ℕ, ◌+◌, ◌<◌, ◌∙◌, ◌∷◌, ◌≡◌, ◌≤◌, ◌⊎◌}
 use Rattle.std.specs.Prelude.{max}
 use Rattle.std.specs.declared.option.Option.{Option}
-use Rattle.cdf_edits.proofs.Common.{Act, AllKeep, Allowance, Allowances, Avoids, Field, Good, Keeps, Kind, OutsideFields, R, Same, Stays, Variable, VariableShape, Z, avoided, eq-eqb, freeing_marks, gdr_type, le-leb, lt-leb, nat_le, owned, range_at, record_bytes, shape, space_fields, type_in, variable_records, variables_chain, vdr_vxr_head, vdr_vxr_tail, within}
+use Rattle.cdf_edits.proofs.Common.{Act, AllKeep, Allowance, Allowances, Avoids, Field, Good, Keeps, Kind, OutsideFields, R, Same, Stays, Variable, VariableShape, Z, avoided, eq-eqb, freeing_marks, gdr_type, le-leb, lt-leb, nat_le, owned, range_at, shape, space_fields, type_in, variable_records, variables_chain, vdr_vxr_head, vdr_vxr_tail, within}
 use Rattle.cdf_edits.proofs.Edits.Common.{Avoids-append, StandsAmong, gdr_in, gdr_typed, sound, tile, typed}
 use Rattle.cdf_edits.proofs.Edits.ActsThen.{taken-gave}
-use Rattle.cdf_edits.proofs.Edits.LeafPieces.{IsOneOf, each_of, of_each, place_in}
+use Rattle.cdf_edits.proofs.Commands.KeptRecords.{Stood, keeps_stood}
+use Rattle.cdf_edits.proofs.Edits.IndexEdited.{cpr_kept}
+use Rattle.cdf_edits.proofs.Edits.LeafPieces.{InOrder as LeafInOrder, IsOneOf, each_of, in_order as leaf_order, of_each, place_in}
 use Rattle.cdf_edits.proofs.Edits.OwnersKept.{keeps_fields}
-use Rattle.cdf_edits.proofs.Edits.PlainLeaves.{PlainLeaf, own_rules, plain_leaf}
-use Rattle.cdf_edits.proofs.Edits.VariableCopied.{block_behind}
+use Rattle.cdf_edits.proofs.Edits.PlainLeaves.{leaves_ascend, own_rules, plain_leaf}
+use Rattle.cdf_edits.proofs.Edits.VariableCopied.{block_behind, cpr_behind}
 use Rattle.cdf_edits.specs.Commands.Allowances.{anything_if}
 use Rattle.cdf_edits.specs.Commands.PutSteps.{Goes, step_changes}
 use Rattle.cdf_edits.specs.Index.Cut.{CutsIndex, StaysWhole}
@@ -22,19 +24,20 @@ use Rattle.cdf_index.specs.Order.{InOrder}
 use Rattle.cdf_model.specs.Limits.{record_number_limit}
 use Rattle.cdf_puts.proofs.Common.{same_as_itself}
 use Rattle.cdf_puts.proofs.GoesThen.{own_there}
-use Rattle.cdf_puts.proofs.PutRules.{no_cpr}
 use Rattle.cdf_puts.specs.Going.{GoesOn, found_in}
 use Rattle.cdf_cuts.proofs.ChainKept.{top_left}
 use Rattle.cdf_cuts.proofs.CutDone.{each_from}
-use Rattle.cdf_cuts.proofs.CutFreed.{cut_marks, edit, freed_avoids, own_most, plain_left, stays_used, types, vdr_apart}
-use Rattle.cdf_cuts.proofs.CutGoes.{block_stays, cut_goes, entries_say, freed_now, long_now, max_rec_now, r_max_rec_now, same_records, spare_stays, tail_now}
-use Rattle.cdf_cuts.proofs.CutStay.{nodes_left, to_left}
+use Rattle.cdf_cuts.proofs.CutFreed.{cut_marks, edit, freed_avoids, own_most, stays_used, types, vdr_apart, whole as edited}
+use Rattle.cdf_cuts.proofs.CutGoes.{block_stays, cut_goes, entries_say, freed_now, long_now, max_rec_now, r_max_rec_now, rooms, same_records, spare_stays, tail_now}
+use Rattle.cdf_cuts.proofs.KeptLeaf.{AsMany, IsPlainOrWhole}
+use Rattle.cdf_cuts.proofs.CutLeaves.{IsLeft}
+use Rattle.cdf_cuts.proofs.CutStay.{from_left, nodes_left, to_left}
 use Rattle.cdf_cuts.proofs.CutWhole.{meets, rest_order}
 use Rattle.cdf_cuts.proofs.CutWords.{cut}
 use Rattle.cdf_puts.proofs.GoesKeep.{each_own, goes_keep}
-use Rattle.cdf_cuts.proofs.PastKept.{kept_same, same_index, some_left}
+use Rattle.cdf_cuts.proofs.PastKept.{front, kept_same, same_index, some_left}
 use Rattle.cdf_cuts.specs.Cut.{IsCut}
-use Rattle.cdf_cuts.specs.Past.{CutPast, before_first, cut_off, past_acts, past_span, stage}
+use Rattle.cdf_cuts.specs.Past.{CutPast, EndCut, PlainOrUncut, before_first, cut_off, past_acts, past_span, stage}
 use Rattle.cdf_format.specs.Shape.{is_compressed}
 
 -- ---- marks
@@ -48,7 +51,7 @@ space_tests Z v nodes n unused freed = (refl, refl)
 pub aside : (n : ℕ) → OutsideFields (vdr_vxr_head ∷ vdr_vxr_tail ∷ []) n → (n + 1 ≤ 28) ⊎ (44 ≤ n)
 aside n out = elim out.0 [ inl x ↦ inl (omega arith) | inr x ↦ elim out.1.0 [ inl y ↦ absurd (omega arith) | inr y ↦ inr y ] ]
 
-module _ {b now : List ℕ} {kind : Kind} {before : List VariableShape} {own : VariableShape} {after : List VariableShape} {first : ℕ} (good : Good b) (at : StandsAmong b kind before own after) (short : length b ≤ image_limit) (c : IsCut b now kind own (past_span first)) (loose : is_compressed b own.vdr ≡ false) where
+module _ {b now : List ℕ} {kind : Kind} {before : List VariableShape} {own : VariableShape} {after : List VariableShape} {first : ℕ} (good : Good b) (at : StandsAmong b kind before own after) (short : length b ≤ image_limit) (c : IsCut b now kind own (past_span first)) (uncut : Each (PlainOrUncut first) (leaves_of own.index)) where
   abbrev leaves : List Leaf
   leaves = leaves_of own.index
 
@@ -70,17 +73,32 @@ module _ {b now : List ℕ} {kind : Kind} {before : List VariableShape} {own : V
   was_order : InOrder 0 record_number_limit own.index
   was_order = index_order b (shape b).records own.vdr own.index (own_rules good at).1
 
-  plain : (l : Leaf) → IsOneOf leaves l → PlainLeaf b (record_bytes b own.vdr) l
-  plain l i = plain_leaf good at loose l i
+  range_of : (l : Leaf) → IsOneOf leaves l → LeafInOrder 0 (suc record_number_limit) l
+  range_of l i = leaf_order 0 (suc record_number_limit) leaves (leaves_ascend good at) l i
 
-  unpacked : Each (λ (l : Leaf). l.packed ≡ false) (leaves_of (cut (past_span first) own.index))
-  unpacked = plain_left (past_span first) own.index (each_of (λ (l : Leaf). l.packed ≡ false) leaves (λ l i. (plain l i).plain))
+  small : (l : Leaf) → IsOneOf leaves l → l.last ≤ 2147483646
+  small l i = let before = (range_of l i).before in omega arith
+
+  -- a leaf that ends before the records that go keeps all of its own
+  whole_left : (l m : Leaf) → IsOneOf leaves l → IsLeft (past_span first) l m → l.last < first → AsMany leaves m
+  whole_left l m i left lt =
+      let f = front first l m (small l i) left in
+      let ends : m.last ≡ l.last = omega (arith, f.last_is, lt) in
+      record { old = l; one = i; place_is = f.place_is; count_is = rw (f.first_is, ends) refl }
+
+  ruled_by : (l m : Leaf) → IsOneOf leaves l → IsLeft (past_span first) l m → PlainOrUncut first l → IsPlainOrWhole leaves m
+  ruled_by l m i left (inl p) = inl (left.packed_is ∙ p)
+  ruled_by l m i left (inr (inl lt)) = inr (whole_left l m i left lt)
+  ruled_by l m i left (inr (inr low)) = let reaches = (front first l m (small l i) left).reaches in absurd (omega arith)
+
+  ruled : Each (IsPlainOrWhole leaves) (leaves_of rest)
+  ruled = each_of (IsPlainOrWhole leaves) (leaves_of rest) (λ m j. (let r = from_left (past_span first) leaves (leaves_of rest) (nodes_left (past_span first) own.index) m j in ruled_by r.0 m r.1.0 r.1.1 (of_each (PlainOrUncut first) leaves r.0 uncut r.1.0)))
 
   in_order : InOrder 0 record_number_limit rest
   in_order = rest_order first (max first 2147483646) false own.index order was_order
 
   goes_on : GoesOn b now kind before own left after acts
-  goes_on = cut_goes good at order c.is_linked short now c.given in_order unpacked
+  goes_on = cut_goes good at order c.is_linked short now c.given in_order ruled
 
   none_taken : taken acts ≡ []
   none_taken = taken-gave b freed
@@ -97,14 +115,14 @@ module _ {b now : List ℕ} {kind : Kind} {before : List VariableShape} {own : V
         frees = m.frees;
         takes = m.takes;
         stand = m.stand;
-        stay = each_of is leaves (λ old i. each_of (StaysWhole v (before_first first) acts old) (leaves_of rest) (λ new j part. of_each (StaysWhole v (kept_by (past_span first)) acts old) (leaves_of rest) new (of_each was leaves old m.stay i) j (kept_same first old.first old.last (plain old i).small ∙ part)));
+        stay = each_of is leaves (λ old i. each_of (StaysWhole v (before_first first) acts old) (leaves_of rest) (λ new j part. of_each (StaysWhole v (kept_by (past_span first)) acts old) (leaves_of rest) new (of_each was leaves old m.stay i) j (kept_same first old.first old.last (small old i) ∙ part)));
       }
 
   -- ---- a block that has a record before those that go
 
   in_rest : (l : Leaf) → IsOneOf leaves l → l.first < first → In l.place (places_of (leaves_of rest))
   in_rest l i lt =
-      let k = to_left (past_span first) leaves (leaves_of rest) (nodes_left (past_span first) own.index) l i (some_left first l (plain l i).small lt) in
+      let k = to_left (past_span first) leaves (leaves_of rest) (nodes_left (past_span first) own.index) l i (some_left first l (small l i) lt) in
       subst (λ (p : ℕ). In p (places_of (leaves_of rest))) k.1.1.place_is (place_in (leaves_of rest) k.0 k.1.0)
 
   block : (l : Leaf) → IsOneOf leaves l → l.first < first → Stays b now l.place []
@@ -152,13 +170,19 @@ module _ {b now : List ℕ} {kind : Kind} {before : List VariableShape} {own : V
   allowed m o e = let same = same_as_itself kind in let number = eq-eqb (length before) (length before) refl in rw (same, number, e)
 
   block_keeps : (l : Leaf) → IsOneOf leaves l → Keeps b now l.place (block_may (range l.first l.last))
-  block_keeps l i = elim (cases_lt l.last first) [ inl lt ↦ rw (lt-leb first l.last lt) (block l i (omega (arith, (plain l i).ordered, lt))) | inr ge ↦ rw (le-leb first l.last ge) tt ]
+  block_keeps l i = elim (cases_lt l.last first) [ inl lt ↦ rw (lt-leb first l.last lt) (block l i (omega (arith, (range_of l i).ordered, lt))) | inr ge ↦ rw (le-leb first l.last ge) tt ]
+
+  cpr_stood : (m : ℕ) → In m own.cpr → Stood b now m
+  cpr_stood m i = record {
+    stands = subst (In m) (sym (same_records good at order c.is_linked short now c.given)) (behind_in good at m (cpr_behind own m i));
+    whole = cpr_kept good at (edited good at order c.is_linked now c.given) m i;
+  }
 
   own_keeps : (m : ℕ) → In m (variable_records own) → Keeps b now m (own_may m)
   own_keeps = each_own (λ (m : ℕ). Keeps b now m (own_may m)) own (rw (of_own.descriptor_allowed (found_in b kind before own) good at refl heads block_may own_may allowed) descriptor)
       (λ m i. rw (of_own.node_allowed (found_in b kind before own) good at refl heads block_may own_may allowed m i) tt)
       (λ l i. rw (of_own.block_allowed (found_in b kind before own) good at refl heads block_may own_may allowed l i) (block_keeps l i))
-      (λ m i. absurd (subst (In m) (no_cpr good at loose) i))
+      (λ m i. keeps_stood b now m (cpr_stood m i) (own_may m))
 
   keeps : AllKeep b now may acts (owned b (shape b))
   keeps = goes_keep good at goes_on may gdr own_keeps
@@ -177,17 +201,25 @@ module _ {b now : List ℕ} {kind : Kind} {before : List VariableShape} {own : V
     freed = freed_now good at order c.is_linked short now c.given;
   }
 
-  whole : CutPast b now kind before own left after first
+  whole : EndCut b now kind before own left after first
   whole = record {
-    loose = loose;
     goes_on = goes_on;
     long = long_now good at order c.is_linked short now c.given;
+    rooms = each_from (λ m. room_at now m ≡ room_at b m) (nodes_of rest) (rooms good at order c.is_linked short now c.given);
     cuts = cuts;
     goes = goes;
     blocks = each_of (λ (l : Leaf). l.first < first → Stays b now l.place []) leaves block;
     max_rec_is = max_rec_now good at order c.is_linked short now c.given;
-    r_max_rec_is = r_max_rec_now good at order c.is_linked short now c.given in_order unpacked;
+    r_max_rec_is = r_max_rec_now good at order c.is_linked short now c.given in_order ruled;
   }
 
-  pub cut_past : CutPast b now kind before own (cut_off own first) after first
-  cut_past = subst (λ (y : Nodes). CutPast b now kind before own (record own { index = y }) after first) (same_index first own.index was_order) whole
+  pub end_cut : EndCut b now kind before own (cut_off own first) after first
+  end_cut = subst (λ (y : Nodes). EndCut b now kind before own (record own { index = y }) after first) (same_index first own.index was_order) whole
+
+-- where no block of it is packed
+module _ {b : List ℕ} {kind : Kind} {before : List VariableShape} {own : VariableShape} {after : List VariableShape} (good : Good b) (at : StandsAmong b kind before own after) (loose : is_compressed b own.vdr ≡ false) where
+  pub none_cut : (first : ℕ) → Each (PlainOrUncut first) (leaves_of own.index)
+  none_cut first = each_of (PlainOrUncut first) (leaves_of own.index) (λ l i. inl (plain_leaf good at loose l i).plain)
+
+  pub cut_past : {now : List ℕ} {first : ℕ} → EndCut b now kind before own (cut_off own first) after first → CutPast b now kind before own (cut_off own first) after first
+  cut_past e = record { loose = loose; goes_on = e.goes_on; long = e.long; cuts = e.cuts; goes = e.goes; blocks = e.blocks; max_rec_is = e.max_rec_is; r_max_rec_is = e.r_max_rec_is }

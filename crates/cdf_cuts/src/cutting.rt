@@ -3,10 +3,10 @@
 ghost use Rattle.std.specs.Prelude.{◌≡◌, ◌<◌, ◌≤◌, suc, ◌^◌, ◌++◌, ◌+◌, ◌-◌, ◌*◌, List, length, IfOk, OnOk, false};
 ghost use Rattle.cdf_area.specs.Calls.{Edits, Reads};
 ghost use Rattle.cdf_edits.specs.Edits.Standing.{Ascending, StandsAmong};
-ghost use Rattle.cdf_format.specs.Fields.{LiesIn};
+ghost use Rattle.cdf_format.specs.Fields.{LiesIn, number};
 ghost use Rattle.cdf_format.specs.Index.{leaves_of};
 ghost use Rattle.cdf_format.specs.Records.{vdr_vxr_head, vdr_vxr_tail, vvr_place};
-ghost use Rattle.cdf_format.specs.Shape.{VariableShape, shape, variables, vdrs, is_compressed};
+ghost use Rattle.cdf_format.specs.Shape.{Each, VariableShape, shape, variables, vdrs, is_compressed};
 ghost use Rattle.cdf_format.specs.Tiles.{In};
 ghost use Rattle.cdf_format.specs.VariableFields.{record_bytes};
 ghost use Rattle.cdf_format.specs.WellFormed.{Good};
@@ -16,7 +16,7 @@ ghost use Rattle.cdf_model.specs.Limits.{image_limit, record_number_limit};
 ghost use Rattle.cdf_model.specs.declared.kinds.Kind.{Kind};
 ghost use Rattle.cdf_cuts.specs.Closing.{RecordsClosed};
 ghost use Rattle.cdf_cuts.specs.Moving.{IsLater, JoinsFront};
-ghost use Rattle.cdf_cuts.specs.Past.{CutPast, cut_off};
+ghost use Rattle.cdf_cuts.specs.Past.{CutPast, EndCut, PlainOrUncut, cut_off};
 ghost use Rattle.cdf_cuts.specs.Cut.{IsCut, heads_led, link_found};
 
 use crate::moving::move_down;
@@ -176,15 +176,15 @@ pub fn close_records<A: Area>(
     }
 }
 
-/// Takes all records from a first one on out of the index of the variable whose descriptor stands at a place, of which no block is packed: a block
-/// that has records before them keeps these where they are, the blocks that have none are freed, and then the nodes that are left without entries.
-/// The first record may be past all that there are. After an error a part of this may have been done.
-pub fn cut_past<A: Area>(alloc: Global, area: &mut A, vdr: u64, first: u32) -> Result<(), AreaError>
+/// Takes all records from a first one on out of the index of the variable whose descriptor stands at a place, of which no packed block has records
+/// before them and this one too: a block that has records before them keeps these where they are, the blocks that have none are freed, and then the
+/// nodes that are left without entries. The first record may be past all that there are. After an error a part of this may have been done.
+pub fn cut_end<A: Area>(alloc: Global, area: &mut A, vdr: u64, first: u32) -> Result<(), AreaError>
     requires good { Good (A.image area.old) }
     requires vdr { In vdr (vdrs (variables (shape (A.image area.old)))) }
-    requires unpacked { is_compressed (A.image area.old) vdr ≡ false }
+    requires uncut { Each (PlainOrUncut first) (leaves_of (index_at (A.image area.old) (number (A.image area.old) vdr vdr_vxr_head))) }
     requires short { length (A.image area.old) ≤ image_limit }
-    ensures past { OnOk result ((kind : Kind) (before : List VariableShape) (own : VariableShape) (after : List VariableShape) → StandsAmong (A.image area.old) kind before own after → own.vdr ≡ vdr → CutPast (A.image area.old) (A.image area.new) kind before own (cut_off own first) after first) }
+    ensures cut { OnOk result ((kind : Kind) (before : List VariableShape) (own : VariableShape) (after : List VariableShape) → StandsAmong (A.image area.old) kind before own after → own.vdr ≡ vdr → EndCut (A.image area.old) (A.image area.new) kind before own (cut_off own first) after first) }
     ensures area { Edits A.frame A.faults area.old area.new result }
 {
     let span = Span {
@@ -193,4 +193,16 @@ pub fn cut_past<A: Area>(alloc: Global, area: &mut A, vdr: u64, first: u32) -> R
         close: false,
     };
     cut_index(alloc, area, vdr, span)
+}
+
+/// Likewise of a variable of which no block is packed.
+pub fn cut_past<A: Area>(alloc: Global, area: &mut A, vdr: u64, first: u32) -> Result<(), AreaError>
+    requires good { Good (A.image area.old) }
+    requires vdr { In vdr (vdrs (variables (shape (A.image area.old)))) }
+    requires unpacked { is_compressed (A.image area.old) vdr ≡ false }
+    requires short { length (A.image area.old) ≤ image_limit }
+    ensures past { OnOk result ((kind : Kind) (before : List VariableShape) (own : VariableShape) (after : List VariableShape) → StandsAmong (A.image area.old) kind before own after → own.vdr ≡ vdr → CutPast (A.image area.old) (A.image area.new) kind before own (cut_off own first) after first) }
+    ensures area { Edits A.frame A.faults area.old area.new result }
+{
+    cut_end(alloc, area, vdr, first)
 }

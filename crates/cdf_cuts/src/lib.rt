@@ -8,6 +8,6 @@ mod planning;
 mod room;
 mod writing;
 
-pub use cutting::{close_records, cut_index, cut_past, find_later, join_later};
+pub use cutting::{close_records, cut_end, cut_index, cut_past, find_later, join_later};
 pub use planning::Span;
 pub use room::read_closing_room;

@@ -17,6 +17,7 @@ use Rattle.cdf_puts.specs.Going.{GoesOn}
 use Rattle.cdf_cuts.proofs.CutFreed.{own_most, plain_left}
 use Rattle.cdf_cuts.proofs.CutGoes.{block_stays, cut_goes, long_now, max_rec_now, r_max_rec_now}
 use Rattle.cdf_cuts.proofs.CutLeaves.{IsLeft}
+use Rattle.cdf_cuts.proofs.KeptLeaf.{IsPlainOrWhole}
 use Rattle.cdf_cuts.proofs.CutStay.{from_left, nodes_left, to_left}
 use Rattle.cdf_cuts.proofs.CutWhole.{meets, rest_order}
 use Rattle.cdf_cuts.proofs.CutWords.{cut}
@@ -74,7 +75,7 @@ module _ {b mid : List ℕ} {kind : Kind} {before : List VariableShape} {own : V
   pub plain : (l : Leaf) → IsOneOf leaves l → PlainLeaf b size l
   plain l i = plain_leaf good at loose l i
 
-  unpacked : Each (λ (l : Leaf). l.packed ≡ false) (leaves_of (cut (opening first last) own.index))
+  unpacked : Each (IsPlainOrWhole leaves) (leaves_of (cut (opening first last) own.index))
   unpacked = plain_left (opening first last) own.index (each_of (λ (l : Leaf). l.packed ≡ false) leaves (λ l i. (plain l i).plain))
 
   pub was_order : InOrder 0 record_number_limit own.index

@@ -19,7 +19,7 @@ use Rattle.cdf_index.specs.Adding.{Counts}
 use Rattle.cdf_index.specs.Writing.{EntrySet}
 use Rattle.cdf_cuts.proofs.CutDone.{each_from, may_all}
 use Rattle.cdf_cuts.proofs.CutWords.{cut}
-use Rattle.cdf_cuts.proofs.PastCut.{cut_past}
+use Rattle.cdf_cuts.proofs.PastCut.{cut_past, end_cut as cut_at_end, none_cut}
 use Rattle.cdf_cuts.proofs.PlanPlaces.{rewrites_stay}
 use Rattle.cdf_cuts.specs.Cut.{IsCut}
 use Rattle.cdf_cuts.specs.Linking.{EntriesLeft, IsLinked, cut_touches, left_of, links_touch}
@@ -164,7 +164,7 @@ module _ {b : List ℕ} {kind : Kind} {before : List VariableShape} {own : Varia
         record { linked = now; is_linked = ended_linked; given = subst (AllGiven now now) (sym is) refl }
 
     pub ended_past : CutPast b now kind before own (cut_off own first) after first
-    ended_past = cut_past good at short ended_cut loose
+    ended_past = cut_past good at loose (cut_at_end good at short ended_cut (none_cut good at loose first))
 
   -- ---- nothing is written
 
