@@ -1,4 +1,5 @@
 pub mod Common
+pub mod CompressionAnswers
 pub mod CreatedVariable
 pub mod NamesRead
 pub mod NewVdr

@@ -3,6 +3,7 @@
 
 mod blocking;
 mod chain;
+mod compression;
 mod creating;
 mod deleting;
 mod descriptor;
