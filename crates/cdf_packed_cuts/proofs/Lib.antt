@@ -1,0 +1,17 @@
+pub mod PlacedCut
+pub mod NodesKept
+pub mod FreedThenFreed
+pub mod TwoSteps
+pub mod TwoActs
+pub mod TwoWritten
+pub mod CutStored
+pub mod PackedContent
+pub mod TwoIndex
+pub mod TwoFreed
+pub mod TwoGoes
+pub mod TwoStored
+pub mod TwoPast
+pub mod AtOnce
+pub mod SplitFound
+pub mod KeptThenCut
+pub mod SplitCalls
