@@ -5,6 +5,7 @@ pub mod AddingCalls
 pub mod RecordsOver
 pub mod LeafRewritten
 pub mod RoomSteps
+pub mod NothingCut
 pub mod PackedStep
 pub mod AddedPut
 pub mod PackedSpot

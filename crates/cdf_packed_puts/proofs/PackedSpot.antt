@@ -1,12 +1,13 @@
 -- Where the next record of a packed variable is put: what an image says of it in which some records are put, what each step asks for, and what it leads to.
-use Rattle.std.proofs.Common.{List, None, Option, Some, [], ap, arith, false, length, max, min, refl, subst, sym, ℕ, ◌*◌, ◌++◌, ◌+◌, ◌-◌, ◌<◌, ◌∙◌, ◌∷◌, ◌≡◌, ◌≤◌}
+use Rattle.std.proofs.Common.{List, None, Option, Some, [], ap, arith, length, max, min, refl, subst, sym, ℕ, ◌*◌, ◌++◌, ◌+◌, ◌-◌, ◌<◌, ◌∙◌, ◌∷◌, ◌≡◌, ◌≤◌}
 use Rattle.std.specs.Prelude.{find, if◌then◌else◌}
 use Rattle.cdf_edits.proofs.Common.{Kind, VariableShape, extent, is_sparse, leaves_of, max_rec_at, number, range, record_bytes, shape, sparse_at, variable_of, variables, vdr_max_rec, vdr_vxr_head, vdrs, vxr_bytes}
+use Rattle.cdf_edits.proofs.Edits.PlainLeaves.{leaves_ascend}
 use Rattle.cdf_edits.proofs.Edits.StandsAmong.{in_middle}
 use Rattle.cdf_edits.specs.Commands.PutSteps.{Put}
 use Rattle.cdf_edits.specs.Commands.Room.{put_room, widest}
-use Rattle.cdf_edits.specs.Index.Blocks.{block_count, covers, cuts_before_put, first_written, firsts_before_put, firsts_of, next_first, ranges_before_put, ranges_of}
-use Rattle.cdf_format.specs.Index.{Leaf, Nodes}
+use Rattle.cdf_edits.specs.Index.Blocks.{block_count, covers, first_written, firsts_of, next_first, ranges_before_put, ranges_of}
+use Rattle.cdf_format.specs.Index.{Leaf}
 use Rattle.cdf_format.specs.Tiles.{In}
 use Rattle.cdf_index.proofs.OneVariable.{among_all}
 use Rattle.cdf_index.specs.Finding.{HasIndex, index_at}
@@ -14,20 +15,18 @@ use Rattle.cdf_index.specs.Order.{leaf_of}
 use Rattle.cdf_index.specs.Sight.{seen}
 use Rattle.cdf_index.specs.Starting.{IsStart}
 use Rattle.cdf_leaves.proofs.Own.{own_order, searchable}
-use Rattle.cdf_model.specs.DataSet.{Variable}
 use Rattle.cdf_puts.proofs.CoveringRanges.{Ends, covering_entries, covering_starts, written_upto}
 use Rattle.cdf_puts.proofs.KnownStarts.{tops_in, vdr_lies}
 use Rattle.cdf_puts.proofs.PutRoom.{taken_sum}
 use Rattle.cdf_puts.proofs.PutSpot.{last_as, most_within, records_long}
-use Rattle.cdf_puts.proofs.SharedRoom.{rewritten_room}
 use Rattle.cdf_puts.specs.Covering.{Covering, new_last}
 use Rattle.cdf_puts.specs.Putting.{last_in_new, records_put}
 use Rattle.cdf_puts.specs.SoFar.{taken_bytes}
 use Rattle.cdf_puts.specs.Starts.{IsKnownStart}
 use Rattle.cdf_puts.specs.Steps.{IsVacant}
 use Rattle.cdf_puts.specs.declared.putting.NewRecord.{NewRecord}
-use Rattle.cdf_put_steps.proofs.Along.{goes_one_along, starts_along}
-use Rattle.cdf_put_steps.specs.Along.{put_in}
+use Rattle.cdf_put_steps.proofs.Along.{leaves_one_along, leaves_start}
+use Rattle.cdf_put_steps.specs.Along.{at_start, put_in}
 use Rattle.cdf_blocks.specs.Sites.{IsFound}
 use Rattle.cdf_blocks.specs.declared.sites.SitedLeaf.{SitedLeaf}
 use Rattle.cdf_blocks.specs.Reading.{block_size}
@@ -36,6 +35,7 @@ use Rattle.cdf_packed_puts.specs.Putting.{IndexAfter, PackedOnTo, PackedPut, Pac
 use Rattle.cdf_packed_puts.specs.Rewriting.{LeafPut, PutsInto, SomePutInto}
 use Rattle.cdf_packed_puts.specs.declared.adding.Vacancy.{Vacancy}
 use Rattle.cdf_packed_puts.proofs.AddedPut.{added_put}
+use Rattle.cdf_packed_puts.proofs.NothingCut.{firsts_same, nothing_cut, written_room}
 use Rattle.cdf_packed_puts.proofs.PackedStep.{stepped}
 use Rattle.cdf_packed_puts.proofs.RoomSteps.{new_ends, new_fits, old_fits}
 
@@ -57,7 +57,7 @@ module _ {b now : List ℕ} {kind : Kind} {before : List VariableShape} {own : V
   own' = so.up.own'
 
   same_ranges : ranges_before_put (variable_of b own) own.index new.rec ≡ ranges_of own.index
-  same_ranges = rw p.uncut refl
+  same_ranges = nothing_cut (variable_of b own) own.index new.rec (leaves_ascend p.good p.among) p.gone
 
   pub vdr_in : In new.vdr (vdrs (variables (shape now)))
   vdr_in =
@@ -96,7 +96,7 @@ module _ {b now : List ℕ} {kind : Kind} {before : List VariableShape} {own : V
             own' = lp.own';
             last = lp.acts;
             acts = so.up.acts ++ lp.acts;
-            along = goes_one_along so.up.along (lp.leaf so.up.last) lp.goes_on;
+            along = leaves_one_along so.up.along (lp.leaf so.up.last) lp.goes_on;
             max_rec_is = max_rec ∙ so.up.max_rec_is;
             r_max_rec_is = lp.r_max_rec_is ∙ so.up.r_max_rec_is;
             tops = λ m i. step.1.0 m (so.up.tops m i);
@@ -197,22 +197,19 @@ module _ {b now : List ℕ} {kind : Kind} {before : List VariableShape} {own : V
 
 -- ---- from the first image on
 
-firsts_same : (v : Variable) (index : Nodes) (n : ℕ) → cuts_before_put v n ≡ false → firsts_before_put v index n ≡ firsts_of index
-firsts_same v index n uncut = rw uncut refl
-
 -- where what is read in between leaves the image and the limit
 pub on_after : {early mid now : List ℕ} {new : NewRecord} {k next limit bound : ℕ} → mid ≡ early → bound ≡ limit → PacksOn mid now bound new k next → PacksOn early now limit new k next
 on_after {early = early} {now = now} {new = new} {k = k} {next = next} {bound = bound} same bounded on = subst (λ (n : ℕ). PacksOn early now n new k next) bounded (subst (λ (x : List ℕ). PacksOn x now bound new k next) same on)
 
 pub packing_starts : {b : List ℕ} {kind : Kind} {before : List VariableShape} {own : VariableShape} {after : List VariableShape} {new : NewRecord} {limit : ℕ} → Packing b kind before own after new limit → PackedSoFar b b kind before own after new (first_written (variable_of b own) new.rec)
-packing_starts {b = b} {kind = kind} {before = before} {own = own} {new = new} p =
+packing_starts {b = b} {kind = kind} {before = before} {own = own} {after = after} {new = new} p =
     let v = variable_of b own in
     let first : min (first_written v new.rec) (new.rec + 1) ≡ first_written v new.rec = let w = written_upto v new.rec in omega arith in
-    let ranges : ranges_before_put v own.index new.rec ≡ ranges_of own.index = rw p.uncut refl in
-    let covers = covering_starts v own.index new.rec p.small ranges (λ m le. ap (next_first m) (firsts_same v own.index new.rec p.uncut)) (own_order p.good p.among) in
-    let room = rewritten_room v own.index new.rec p.rle p.uncut in
+    let ranges = nothing_cut v own.index new.rec (leaves_ascend p.good p.among) p.gone in
+    let covers = covering_starts v own.index new.rec p.small ranges (λ m le. ap (next_first m) (firsts_same v own.index new.rec p.gone)) (own_order p.good p.among) in
+    let room = written_room v own.index new.rec p.rle in
     record {
-      up = record { own' = own; last = []; acts = []; along = starts_along new.rec new.raw.items p.good p.among p.uncut; max_rec_is = refl; r_max_rec_is = refl; tops = λ m i. i };
+      up = record { own' = own; last = []; acts = []; along = leaves_start (put_in b kind before own new.rec new.raw.items) kind before after (at_start b (put_in b kind before own new.rec new.raw.items) own); max_rec_is = refl; r_max_rec_is = refl; tops = λ m i. i };
       into = record {
         good = p.good;
         among = p.among;

@@ -1,18 +1,18 @@
--- How far a put into a packed variable has come, of which nothing is cut first (own: records are written in ascending order, those of one leaf together).
-use Rattle.std.specs.Prelude.{◌≡◌, ◌≤◌, ◌<◌, ℕ, ◌+◌, min, List, length, true, false}
+-- How far a put into a packed variable has come, of which nothing is left to be cut first (own: records are written in ascending order, those of one leaf together).
+use Rattle.std.specs.Prelude.{◌≡◌, ◌≤◌, ◌<◌, ℕ, ◌+◌, min, List, length, true}
 use Rattle.cdf_edits.specs.Commands.GreatestRecord.{r_max_rec}
 use Rattle.cdf_edits.specs.Commands.Room.{entries_in, packed_room, put_room, uncovered, widest}
 use Rattle.cdf_edits.specs.Edits.Standing.{StandsAmong}
-use Rattle.cdf_edits.specs.Index.Blocks.{cuts_before_put, first_written, ranges_of, record_length}
+use Rattle.cdf_edits.specs.Index.Blocks.{cuts_before_put, first_written, firsts_of, ranges_of, record_length}
 use Rattle.cdf_edits.specs.Space.Acts.{Act}
 use Rattle.cdf_format.specs.Content.{variable_of}
 use Rattle.cdf_format.specs.Fields.{number}
-use Rattle.cdf_format.specs.Index.{Nodes}
+use Rattle.cdf_format.specs.Index.{Nodes, leaves_of}
 use Rattle.cdf_format.specs.Records.{vdr_max_rec}
-use Rattle.cdf_format.specs.Shape.{VariableShape, is_compressed}
+use Rattle.cdf_format.specs.Shape.{Each, VariableShape, is_compressed}
 use Rattle.cdf_format.specs.VariableFields.{record_bytes}
 use Rattle.cdf_format.specs.WellFormed.{Good}
-use Rattle.cdf_model.specs.DataSet.{Variable}
+use Rattle.cdf_model.specs.DataSet.{Variable, extent}
 use Rattle.cdf_model.specs.Limits.{record_number_limit}
 use Rattle.cdf_model.specs.declared.kinds.Kind.{Kind}
 use Rattle.cdf_puts.specs.Covering.{Covering}
@@ -20,16 +20,21 @@ use Rattle.cdf_puts.specs.Putting.{most_in_block}
 use Rattle.cdf_puts.specs.SharedRoom.{shared_room}
 use Rattle.cdf_puts.specs.SoFar.{TopStays, taken_bytes}
 use Rattle.cdf_puts.specs.declared.putting.NewRecord.{NewRecord}
-use Rattle.cdf_put_steps.specs.Along.{PutsAlong, put_in, stored_pad}
+use Rattle.cdf_put_steps.specs.Along.{LeavesAlong, at_start, put_in, stored_pad}
 use Rattle.cdf_blocks.specs.Replaced.{stage}
 use Rattle.cdf_packed_puts.specs.Rewriting.{PutsInto}
 
--- A packed variable of a good image in which a record may be put of which nothing is cut first, and what is put, as it is stored: there is room for it under a limit.
+-- no block has a record from a first one on, and no entry of a node begins there
+pub record EndsBefore (first : ℕ) (index : Nodes) : Type 0 where
+  pub lasts : Each (λ l. l.last < first) (leaves_of index)
+  pub firsts : Each (λ f. f < first) (firsts_of index)
+
+-- A packed variable of a good image in which a record may be put, and what is put, as it is stored: what would be cut first is gone, and there is room for it under a limit.
 pub record Packing (b : List ℕ) (kind : Kind) (before : List VariableShape) (own : VariableShape) (after : List VariableShape) (put : NewRecord) (limit : ℕ) : Type 0 where
   pub good : Good b
   pub among : StandsAmong b kind before own after
   pub rle : is_compressed b own.vdr ≡ true
-  pub uncut : cuts_before_put (variable_of b own) put.rec ≡ false
+  pub gone : cuts_before_put (variable_of b own) put.rec ≡ true → EndsBefore (extent (variable_of b own).max_rec) own.index
   pub vdr_is : own.vdr ≡ put.vdr
   pub small : put.rec ≤ record_number_limit
   pub raw_long : length put.raw.items ≡ record_bytes b own.vdr
@@ -52,7 +57,7 @@ pub record PackedUpTo (b now : List ℕ) (kind : Kind) (before : List VariableSh
   pub own' : VariableShape
   pub last : List Act
   pub acts : List Act
-  pub along : PutsAlong b kind before own after put.rec put.raw.items (stage now own' last k) acts
+  pub along : LeavesAlong (put_in b kind before own put.rec put.raw.items) kind before after (at_start b (put_in b kind before own put.rec put.raw.items) own) (stage now own' last k) acts
   pub max_rec_is : number now own.vdr vdr_max_rec ≡ number b own.vdr vdr_max_rec
   pub r_max_rec_is : r_max_rec now ≡ r_max_rec b
   pub tops : TopStays own.index own'.index

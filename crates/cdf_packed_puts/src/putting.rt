@@ -117,7 +117,7 @@ fn put_next<A: Area>(
 }
 
 /// Puts a record into a packed variable, and from one on those before it that are not stored: those of a leaf together, into its block or into a
-/// new one. Nothing is to be cut first. Of the top chain of its index a node may be known. After an error a part of this may have been done.
+/// new one. What would be cut first is gone. Of the top chain of its index a node may be known. After an error a part of this may have been done.
 #[tactic(auto, using(cdf_area::proofs::Calls::edit_done, cdf_area::proofs::Calls::edit_failed, cdf_area::proofs::Calls::edit_more))]
 pub fn put_packed<A: Area>(
     alloc: Global,

@@ -22,7 +22,7 @@ use Rattle.cdf_put_steps.proofs.Along.{by_along, longer_along}
 use Rattle.cdf_put_steps.proofs.GoesAlong.{goes_along}
 use Rattle.cdf_put_steps.proofs.StepKeeps.{block_unchanged, cpr_allowed, cpr_unchanged, gdr_unchanged, vdr_unchanged}
 use Rattle.cdf_put_steps.proofs.StepLeaves.{LeavesStep, step_leaves}
-use Rattle.cdf_put_steps.specs.Along.{PutsAlong, at_start, put_in}
+use Rattle.cdf_put_steps.specs.Along.{LeavesPut, at_start, put_in}
 
 -- a block of which no record is written has none of those that a put goes through
 none_covered : (v : Variable) (n k : ℕ) (r : Range) → first_written v n ≤ k → k ≤ n → is_rewritten v n r ≡ false → covers k r ≡ false
@@ -47,6 +47,10 @@ pub record KeptSo (b : List ℕ) (kind : Kind) (before : List VariableShape) (ow
 -- a record stays in its own image
 stays_itself : (b : List ℕ) (m : ℕ) → In m (shape b).records → Stays b b m []
 stays_itself b m i = record { stands = i; size_is = refl; same = λ i lt out. refl }
+
+-- the record that says how the variable is packed stands where it did
+pub cpr_same : {b now : List ℕ} {kind : Kind} {before : List VariableShape} {own own' : VariableShape} {after : List VariableShape} {acts : List Act} → Good b → StandsAmong b kind before own after → GoesOn b now kind before own own' after acts → own'.cpr ≡ own.cpr
+cpr_same {now = now} good at one = sym (has one.good one.among).packed_by ∙ ap (cpr_of now) one.vdr_is ∙ cpr_stays one.file (stays good at one.descriptor) ∙ (has good at).packed_by
 
 module _ {b : List ℕ} {kind : Kind} {before : List VariableShape} {own : VariableShape} {after : List VariableShape} (n : ℕ) (raw : List ℕ) (good : Good b) (at : StandsAmong b kind before own after) where
   pub kept_first : length b ≤ image_limit → KeptSo b kind before own after n (at_start b (put_in b kind before own n raw) own) []
@@ -77,9 +81,6 @@ module _ {b : List ℕ} {kind : Kind} {before : List VariableShape} {own : Varia
         let now = block_unchanged from.image to.image (found_in b kind before own) (covers from.next) to.acts x.goes.good x.goes.among refl leaf.goes.keeps l was.0 none in
         (leaves_step.stay l was.0 none, stays_then b from.image to.image l.place [] [] [] was.1 now (λ k out. (tt, tt)))
 
-    cpr_same : to.own.cpr ≡ from.own.cpr
-    cpr_same = sym (has one.good one.among).packed_by ∙ ap (cpr_of to.image) one.vdr_is ∙ cpr_stays one.file (stays x.goes.good x.goes.among one.descriptor) ∙ (has x.goes.good x.goes.among).packed_by
-
     cpr_then : (m : ℕ) → In m own.cpr → Stays b to.image m []
     cpr_then m i =
         let now = cpr_unchanged from.image to.image (found_in b kind before own) (covers from.next) to.acts x.goes.good x.goes.among refl leaf.goes.keeps m (subst (In m) (sym x.cpr_is) i) in
@@ -106,19 +107,47 @@ module _ {b : List ℕ} {kind : Kind} {before : List VariableShape} {own : Varia
       upto = inr small;
       goes = goes_along good at x.goes one;
       blocks = blocks_then;
-      cpr_is = cpr_same ∙ x.cpr_is;
+      cpr_is = cpr_same x.goes.good x.goes.among one ∙ x.cpr_is;
       cpr = cpr_then;
       max_rec = max_rec_then;
       r_max = r_max_then;
     }
 
-pub kept_along : {b : List ℕ} {kind : Kind} {before : List VariableShape} {own : VariableShape} {after : List VariableShape} {n : ℕ} {raw : List ℕ} {to : Stage} {acts : List Act} → PutsAlong b kind before own after n raw to acts → length to.image ≤ image_limit → KeptSo b kind before own after n to acts
+pub kept_along : {b : List ℕ} {kind : Kind} {before : List VariableShape} {own : VariableShape} {after : List VariableShape} {n : ℕ} {raw : List ℕ} {to : Stage} {acts : List Act} → LeavesPut b kind before own after n raw to acts → length to.image ≤ image_limit → KeptSo b kind before own after n to acts
 kept_along {b = b} {kind = kind} {before = before} {own = own} {after = after} {n = n} {raw = raw} along short =
     by_along b kind before own after n raw (KeptSo b kind before own after n) (λ from to acts x leaf one. kept_then n raw along.good along.among from to acts x leaf one) (kept_first n raw along.good along.among (omega (arith, short, longer_along along))) along
 
+-- ---- what each record keeps
+
+module _ {b now : List ℕ} {kind : Kind} {before : List VariableShape} {own own' : VariableShape} {after : List VariableShape} {acts : List Act} (n : ℕ) (good : Good b) (at : StandsAmong b kind before own after) (goes : GoesOn b now kind before own own' after acts)
+    (unwritten : (l : Leaf) → IsOneOf (leaves_of own.index) l → is_rewritten (variable_of b own) n (range l.first l.last) ≡ false → Stays b now l.place []) (cpr_keeps : (m : ℕ) → In m own.cpr → Stays b now m []) where
+  abbrev may : Allowances
+  may = put_changes b (shape b) (found_in b kind before own) n
+
+  abbrev own_may : ℕ → Allowance
+  own_may m = may.variables kind (length before) m
+
+  abbrev block_may : Range → Allowance
+  block_may rg = anything_if (is_rewritten (variable_of b own) n rg)
+
+  allowed : (m : ℕ) (o : Option Range) → range_at (shape b) (found_in b kind before own) m ≡ o → own_may m ≡ of_own.by_range b kind put_fields block_may m o
+  allowed m o e = let same = same_as_itself kind in let number = eq-eqb (length before) (length before) refl in rw (same, number, e)
+
+  block_keeps : (l : Leaf) → IsOneOf (leaves_of own.index) l → Keeps b now l.place (block_may (range l.first l.last))
+  block_keeps l i = elim (either (is_rewritten (variable_of b own) n (range l.first l.last))) [ inl e ↦ rw e tt | inr e ↦ rw e (unwritten l i e) ]
+
+  own_keeps : (m : ℕ) → In m (variable_records own) → Keeps b now m (own_may m)
+  own_keeps = each_own (λ (m : ℕ). Keeps b now m (own_may m)) own (rw (of_own.descriptor_allowed (found_in b kind before own) good at refl put_fields block_may own_may allowed) goes.descriptor)
+      (λ m i. rw (of_own.node_allowed (found_in b kind before own) good at refl put_fields block_may own_may allowed m i) tt)
+      (λ l i. rw (of_own.block_allowed (found_in b kind before own) good at refl put_fields block_may own_may allowed l i) (block_keeps l i))
+      (λ m i. rw (cpr_allowed (found_in b kind before own) good at refl put_fields block_may own_may allowed m i) (cpr_keeps m i))
+
+  pub all_keep : AllKeep b now (put_changes b (shape b) (found_in b kind before own) n) acts (owned b (shape b))
+  all_keep = goes_keep good at goes may goes.gdr own_keeps
+
 -- ---- and then MaxRec is raised
 
-module _ {b now : List ℕ} {kind : Kind} {before : List VariableShape} {own : VariableShape} {after : List VariableShape} {n : ℕ} {raw : List ℕ} {to : Stage} {acts : List Act} (along : PutsAlong b kind before own after n raw to acts) (past : n < to.next) (done : MaxRecDone b to.image now kind own to.own n) (short : length to.image ≤ image_limit) where
+module _ {b now : List ℕ} {kind : Kind} {before : List VariableShape} {own : VariableShape} {after : List VariableShape} {n : ℕ} {raw : List ℕ} {to : Stage} {acts : List Act} (along : LeavesPut b kind before own after n raw to acts) (past : n < to.next) (done : MaxRecDone b to.image now kind own to.own n) (short : length to.image ≤ image_limit) where
   abbrev v : Variable
   v = variable_of b own
 
@@ -137,39 +166,16 @@ module _ {b now : List ℕ} {kind : Kind} {before : List VariableShape} {own : V
   pub put_goes : GoesOn b now kind before own to.own after acts
   put_goes = subst (GoesOn b now kind before own to.own after) (append-nil acts) (goes_along along.good along.among so.goes (goes_written so.goes.good so.goes.among writes short))
 
-  behind_stays : (m : ℕ) → In m (index_records to.own) → Stays to.image now m []
+  pub behind_stays : (m : ℕ) → In m (index_records to.own) → Stays to.image now m []
   behind_stays m i = keeps_stood to.image now m (record { stands = behind_in put_goes.good put_goes.among m i; whole = behind_kept so.goes.good so.goes.among writes m i (λ none. none) }) (Only [])
 
-  -- ---- what each record keeps
-
-  abbrev may : Allowances
-  may = put_changes b (shape b) (found_in b kind before own) n
-
-  abbrev own_may : ℕ → Allowance
-  own_may m = may.variables kind (length before) m
-
-  abbrev block_may : Range → Allowance
-  block_may rg = anything_if (is_rewritten v n rg)
-
-  allowed : (m : ℕ) (o : Option Range) → range_at (shape b) (found_in b kind before own) m ≡ o → own_may m ≡ of_own.by_range b kind put_fields block_may m o
-  allowed m o e = let same = same_as_itself kind in let number = eq-eqb (length before) (length before) refl in rw (same, number, e)
-
-  block_keeps : (l : Leaf) → IsOneOf leaves l → Keeps b now l.place (block_may (range l.first l.last))
-  block_keeps l i = elim (either (is_rewritten v n (range l.first l.last))) [
-    | inl e ↦ rw e tt
-    | inr e ↦
-        let was = so.blocks l i e in
-        rw e (stays_then b to.image now l.place [] [] [] was.1 (behind_stays l.place (block_behind to.own l.place (place_in (leaves_of to.own.index) l was.0))) (λ k out. (tt, tt)))
-  ]
+  unwritten_stays : (l : Leaf) → IsOneOf leaves l → is_rewritten v n (range l.first l.last) ≡ false → Stays b now l.place []
+  unwritten_stays l i e =
+      let was = so.blocks l i e in
+      stays_then b to.image now l.place [] [] [] was.1 (behind_stays l.place (block_behind to.own l.place (place_in (leaves_of to.own.index) l was.0))) (λ k out. (tt, tt))
 
   cpr_keeps : (m : ℕ) → In m own.cpr → Stays b now m []
   cpr_keeps m i = stays_then b to.image now m [] [] [] (so.cpr m i) (behind_stays m (cpr_behind to.own m (subst (In m) (sym so.cpr_is) i))) (λ k out. (tt, tt))
 
-  own_keeps : (m : ℕ) → In m (variable_records own) → Keeps b now m (own_may m)
-  own_keeps = each_own (λ (m : ℕ). Keeps b now m (own_may m)) own (rw (of_own.descriptor_allowed (found_in b kind before own) along.good along.among refl put_fields block_may own_may allowed) put_goes.descriptor)
-      (λ m i. rw (of_own.node_allowed (found_in b kind before own) along.good along.among refl put_fields block_may own_may allowed m i) tt)
-      (λ l i. rw (of_own.block_allowed (found_in b kind before own) along.good along.among refl put_fields block_may own_may allowed l i) (block_keeps l i))
-      (λ m i. rw (cpr_allowed (found_in b kind before own) along.good along.among refl put_fields block_may own_may allowed m i) (cpr_keeps m i))
-
-  pub put_keeps : AllKeep b now may acts (owned b (shape b))
-  put_keeps = goes_keep along.good along.among put_goes may put_goes.gdr own_keeps
+  pub put_keeps : AllKeep b now (put_changes b (shape b) (found_in b kind before own) n) acts (owned b (shape b))
+  put_keeps = all_keep n along.good along.among put_goes unwritten_stays cpr_keeps

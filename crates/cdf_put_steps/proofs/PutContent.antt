@@ -8,7 +8,7 @@ use Rattle.cdf_edits.proofs.Edits.RecordsWritten.{behind_kept}
 use Rattle.cdf_edits.proofs.Frame.VdrAlike.{type_alike}
 use Rattle.cdf_edits.proofs.Frame.VdrStays.{stays_alike, variable_stays}
 use Rattle.cdf_edits.specs.Commands.PutSteps.{PutsLeaf, Stage}
-use Rattle.cdf_edits.specs.Index.Blocks.{first_written}
+use Rattle.cdf_edits.specs.Index.Blocks.{cuts_before_put, first_written}
 use Rattle.cdf_model.specs.RecordSteps.{with_record}
 use Rattle.cdf_puts.proofs.CoveringRanges.{some_or_none, written_from, written_upto}
 use Rattle.cdf_puts.proofs.GoesThen.{goes_written, later_size, stays}
@@ -21,7 +21,7 @@ use Rattle.cdf_put_steps.proofs.KeptAlong.{KeptSo, kept_first, kept_then, put_go
 use Rattle.cdf_put_steps.proofs.RecordPieces.{piece}
 use Rattle.cdf_put_steps.proofs.StepsDone.{extent_set, max_rec_set}
 use Rattle.cdf_put_steps.proofs.StepStored.{leaf_of, stored_beside, stored_by, stored_written}
-use Rattle.cdf_put_steps.specs.Along.{PutsAlong, at_start, put_in, stored_pad}
+use Rattle.cdf_put_steps.specs.Along.{LeavesPut, at_start, put_in, stored_pad}
 use Rattle.std.proofs.Common.{if◌then◌else◌}
 
 abbrev stored_at : List ℕ → VariableShape → Stage → ℕ → Option (List ℕ)
@@ -52,14 +52,14 @@ module _ {b : List ℕ} {kind : Kind} {before : List VariableShape} {own : Varia
     stored_then : StoredSo b own n raw to
     stored_then = record { put = put_then; same = same_then }
 
-  stored_along : {to : Stage} {acts : List Act} → PutsAlong b kind before own after n raw to acts → length to.image ≤ image_limit → StoredSo b own n raw to
+  stored_along : {to : Stage} {acts : List Act} → LeavesPut b kind before own after n raw to acts → length to.image ≤ image_limit → StoredSo b own n raw to
   stored_along along short =
       (by_along b kind before own after n raw (λ stage acts. KeptSo b kind before own after n stage acts × StoredSo b own n raw stage) (λ from to acts x leaf one. (kept_then n raw good at from to acts x.0 leaf one, stored_then from to acts x.0 x.1 leaf one))
       (kept_first n raw good at (omega (arith, short, longer_along along)), stored_first) along).1
 
 -- ---- and then MaxRec is raised
 
-module _ {b now : List ℕ} {kind : Kind} {before : List VariableShape} {own : VariableShape} {after : List VariableShape} {n : ℕ} {raw : List ℕ} {to : Stage} {acts : List Act} (along : PutsAlong b kind before own after n raw to acts) (past : n < to.next) (done : MaxRecDone b to.image now kind own to.own n) (short : length to.image ≤ image_limit) (raw_long : length raw ≡ record_bytes b own.vdr) (pad_long : length (stored_pad b own) ≡ record_bytes b own.vdr) where
+module _ {b now : List ℕ} {kind : Kind} {before : List VariableShape} {own : VariableShape} {after : List VariableShape} {n : ℕ} {raw : List ℕ} {to : Stage} {acts : List Act} (along : LeavesPut b kind before own after n raw to acts) (past : n < to.next) (done : MaxRecDone b to.image now kind own to.own n) (short : length to.image ≤ image_limit) (raw_long : length raw ≡ record_bytes b own.vdr) (pad_long : length (stored_pad b own) ≡ record_bytes b own.vdr) where
   abbrev v : Variable
   v = variable_of b own
 
@@ -108,40 +108,45 @@ module _ {b now : List ℕ} {kind : Kind} {before : List VariableShape} {own : V
   pub stored_same : (j : ℕ) → j < most → j ≢ n → stored_bytes now own.vdr size leaves j ≡ stored_bytes b own.vdr size olds j
   stored_same j lt ne = stored_still j ∙ stored_so.same j (elim (cases_lt n j) [ inl after ↦ inr (after, lt) | inr le ↦ inl (omega (arith, written_from v n, lt, ne, le)) ])
 
+  -- and so is what was stored before the first record that is written
+  pub stored_before : (j : ℕ) → j < first → stored_bytes now own.vdr size leaves j ≡ stored_bytes b own.vdr size olds j
+  stored_before j lt = stored_still j ∙ stored_so.same j (inl lt)
+
   -- ---- the content
 
   abbrev turn : List ℕ → List ℕ
   turn = turned (type_of_variable b own.vdr) (is_little b)
 
-  -- records past MaxRec are only put where there is no rule
-  first_past : (k : ℕ) → most ≤ k → k < n → first ≤ k
-  first_past k le lt = elim (either (is_sparse v.sparse)) [
-    | inl rule ↦ let none : nat_lt most n ≡ false = rw rule at along.uncut in absurd (grind (arith, nat_tests, none, le, lt))
-    | inr free ↦ rw free (omega (arith, le))
-  ]
+  module _ (uncut : cuts_before_put v n ≡ false) where
+    -- records past MaxRec are only put where there is no rule
+    first_past : (k : ℕ) → most ≤ k → k < n → first ≤ k
+    first_past k le lt = elim (either (is_sparse v.sparse)) [
+      | inl rule ↦ let none : nat_lt most n ≡ false = rw rule at uncut in absurd (grind (arith, nat_tests, none, le, lt))
+      | inr free ↦ rw free (omega (arith, le))
+    ]
 
-  module _ (bytes : List ℕ) (raw_is : turned (type_of_variable b own.vdr) (is_little b) raw ≡ bytes) (pad_is : most < n → turned (type_of_variable b own.vdr) (is_little b) (stored_pad b own) ≡ pad_record v) where
-    stored_bytes_is : option_map turn (stored_bytes now own.vdr size leaves n) ≡ Some bytes
-    stored_bytes_is = ap (option_map turn) (stored_put n (written_upto v n) (omega arith)) ∙ ap Some (rw (eq-eqb n n refl) raw_is)
+    module _ (bytes : List ℕ) (raw_is : turned (type_of_variable b own.vdr) (is_little b) raw ≡ bytes) (pad_is : most < n → turned (type_of_variable b own.vdr) (is_little b) (stored_pad b own) ≡ pad_record v) where
+      stored_bytes_is : option_map turn (stored_bytes now own.vdr size leaves n) ≡ Some bytes
+      stored_bytes_is = ap (option_map turn) (stored_put n (written_upto v n) (omega arith)) ∙ ap Some (rw (eq-eqb n n refl) raw_is)
 
-    padded : (k : ℕ) → most ≤ k → k < n → option_map turn (stored_bytes now own.vdr size leaves k) ≡ Some (pad_record v)
-    padded k le lt = ap (option_map turn) (stored_put k (first_past k le lt) (omega arith)) ∙ ap Some (rw (ne_eqb k n (λ e. absurd (omega (arith, e, lt)))) (pad_is (omega arith)))
+      padded : (k : ℕ) → most ≤ k → k < n → option_map turn (stored_bytes now own.vdr size leaves k) ≡ Some (pad_record v)
+      padded k le lt = ap (option_map turn) (stored_put k (first_past k le lt) (omega arith)) ∙ ap Some (rw (ne_eqb k n (λ e. absurd (omega (arith, e, lt)))) (pad_is (omega arith)))
 
-    stores : StoresPut b now own.vdr own.vdr olds leaves n bytes (pad_record v)
-    stores = record {
-      typed = type_alike put.file (stays_alike put.file (stays along.good along.among put.descriptor));
-      little = put.file.little;
-      as_long = ap (record_bytes now) (sym put.vdr_is) ∙ later_size along.good along.among put;
-      ascend = leaves_ascend along.good along.among;
-      ascend_now = leaves_ascend put.good put.among;
-      upto = extent_set along past done short;
-      stored = stored_bytes_is;
-      padded = padded;
-      kept = stored_same;
-    }
+      stores : StoresPut b now own.vdr own.vdr olds leaves n bytes (pad_record v)
+      stores = record {
+        typed = type_alike put.file (stays_alike put.file (stays along.good along.among put.descriptor));
+        little = put.file.little;
+        as_long = ap (record_bytes now) (sym put.vdr_is) ∙ later_size along.good along.among put;
+        ascend = leaves_ascend along.good along.among;
+        ascend_now = leaves_ascend put.good put.among;
+        upto = extent_set along past done short;
+        stored = stored_bytes_is;
+        padded = padded;
+        kept = stored_same;
+      }
 
-    records_are : records_in now own.vdr leaves ≡ with_item n bytes (filled v.sparse v n)
-    records_are = records_put stores ∙ ap (with_item n bytes) (sym (filled_uncut v n along.uncut))
+      records_are : records_in now own.vdr leaves ≡ with_item n bytes (filled v.sparse v n)
+      records_are = records_put stores ∙ ap (with_item n bytes) (sym (filled_uncut v n uncut))
 
-    pub put_content : content now ≡ with_variable (content b) (found_in b kind before own) (with_record v n bytes)
-    put_content = put.content_is ∙ ap (with_variable (content b) (found_in b kind before own)) (variable_stays put.file own to.own (stays along.good along.among put.descriptor) put.vdr_is ∙ (λ i. record v { max_rec = max_rec_set along past done short i; recs = records_are i }))
+      pub put_content : content now ≡ with_variable (content b) (found_in b kind before own) (with_record v n bytes)
+      put_content = put.content_is ∙ ap (with_variable (content b) (found_in b kind before own)) (variable_stays put.file own to.own (stays along.good along.among put.descriptor) put.vdr_is ∙ (λ i. record v { max_rec = max_rec_set along past done short i; recs = records_are i }))

@@ -4,7 +4,7 @@ use Rattle.cdf_edits.proofs.Edits.LeafRecords.{signed}
 use Rattle.cdf_edits.proofs.Edits.RecordsPut.{extent_last, greater_is_first, greater_is_last}
 use Rattle.cdf_edits.proofs.Edits.RecordsWritten.{r_max_rec_of_z}
 use Rattle.cdf_edits.specs.Commands.GreatestRecord.{RMaxRecFollows, greatest_r_max_rec}
-use Rattle.cdf_edits.specs.Commands.PutSteps.{PutsBySteps, Stage}
+use Rattle.cdf_edits.specs.Commands.PutSteps.{PutsBySteps, PutsUpTo, Stage}
 use Rattle.cdf_edits.specs.Commands.Puts.{max_rec_touches}
 use Rattle.cdf_edits.specs.Frame.Changed.{Changed, Touch}
 use Rattle.cdf_model.specs.RecordSteps.{greater}
@@ -14,10 +14,10 @@ use Rattle.cdf_puts.proofs.RaisedGoes.{greatest_follows}
 use Rattle.cdf_puts.specs.Going.{GoesOn, found_in}
 use Rattle.cdf_puts.specs.SoFar.{MaxRecDone}
 use Rattle.cdf_put_steps.proofs.KeptAlong.{KeptSo, put_goes, small_record, so, writes}
-use Rattle.cdf_put_steps.specs.Along.{PutsAlong}
+use Rattle.cdf_put_steps.specs.Along.{LeavesPut, put_in}
 use Rattle.std.specs.Prelude.{max}
 
-greater_is_max : (m n : ℕ) → greater m n ≡ max m n
+pub greater_is_max : (m n : ℕ) → greater m n ≡ max m n
 greater_is_max m n = grind (arith, nat_tests)
 
 r_max_done : (b mid now : List ℕ) (kind : Kind) (own own' : VariableShape) (n : ℕ) → extent (max_rec_at now own'.vdr) ≡ greater (extent (max_rec_at b own.vdr)) (n + 1) → r_max_rec mid ≡ r_max_rec b → MaxRecDone b mid now kind own own' n
@@ -29,7 +29,7 @@ max_rec_done : (b mid now : List ℕ) (kind : Kind) (own own' : VariableShape) (
 max_rec_done b mid now kind own own' n vdr small same (inl x) = ap (max_rec_at now) (sym vdr) ∙ ap with_sign x.1.max_rec_is ∙ signed n small ∙ sym (ap last_number (greater_is_last (extent (max_rec_at b own.vdr)) n x.0))
 max_rec_done b mid now kind own own' n vdr small same (inr x) = ap (max_rec_at now) (sym vdr) ∙ ap (λ (y : List ℕ). max_rec_at y own'.vdr) x.1 ∙ ap with_sign same ∙ sym (last_of_extent (max_rec_at b own.vdr) n x.0) ∙ ap last_number (sym (greater_is_first (extent (max_rec_at b own.vdr)) n x.0))
 
-module _ {b now : List ℕ} {kind : Kind} {before : List VariableShape} {own : VariableShape} {after : List VariableShape} {n : ℕ} {raw : List ℕ} {to : Stage} {acts : List Act} (along : PutsAlong b kind before own after n raw to acts) (past : n < to.next) (done : MaxRecDone b to.image now kind own to.own n) (short : length to.image ≤ image_limit) where
+module _ {b now : List ℕ} {kind : Kind} {before : List VariableShape} {own : VariableShape} {after : List VariableShape} {n : ℕ} {raw : List ℕ} {to : Stage} {acts : List Act} (along : LeavesPut b kind before own after n raw to acts) (past : n < to.next) (done : MaxRecDone b to.image now kind own to.own n) (short : length to.image ≤ image_limit) where
   abbrev most : ℕ
   most = extent (max_rec_at b own.vdr)
 
@@ -45,22 +45,25 @@ module _ {b now : List ℕ} {kind : Kind} {before : List VariableShape} {own : V
   pub extent_set : extent (max_rec_at now own.vdr) ≡ greater most (n + 1)
   extent_set = ap extent max_rec_set ∙ extent_last (greater most (n + 1))
 
-  last_extent : extent (max_rec_at now to.own.vdr) ≡ greater most (n + 1)
+  pub last_extent : extent (max_rec_at now to.own.vdr) ≡ greater most (n + 1)
   last_extent = ap (λ (x : ℕ). extent (max_rec_at now x)) put.vdr_is ∙ extent_set
 
-  last_r_max_rec : RMaxRecFollows b now
+  pub last_r_max_rec : RMaxRecFollows b now
   last_r_max_rec =
       greatest_follows b now kind (length before) (variable_of b own) (variable_of now to.own) (variable_there along.good along.among) put.content_is (λ z. r_max_rec_of_z kept.goes.good kept.goes.among (writes along past done short) z ∙ kept.r_max)
       (r_max_done b to.image now kind own to.own n last_extent kept.r_max done)
 
-  pub by_steps : length raw ≡ record_bytes b own.vdr → PutsBySteps b now (found_in b kind before own) n own acts
-  by_steps raw_long = record {
+  pub touched : Changed to.image now (max_rec_touches to.image kind to.own.vdr)
+  touched = subst (λ (ts : List Touch). Changed to.image now ts) (append-nil (max_rec_touches to.image kind to.own.vdr)) (writes along past done short).changed
+
+  pub by_steps : PutsUpTo b (put_in b kind before own n raw) own to acts → length raw ≡ record_bytes b own.vdr → PutsBySteps b now (found_in b kind before own) n own acts
+  by_steps puts raw_long = record {
     raw = raw;
     raw_long = raw_long;
     last = to;
-    puts = along.puts;
+    puts = puts;
     past = past;
-    changed = subst (λ (ts : List Touch). Changed to.image now ts) (append-nil (max_rec_touches to.image kind to.own.vdr)) (writes along past done short).changed;
+    changed = touched;
     as_long = (writes along past done short).as_long;
     max_rec_is = last_extent ∙ greater_is_max most (n + 1);
     r_max_rec = last_r_max_rec;

@@ -1,6 +1,7 @@
--- A put of which nothing is cut first, leaf by leaf, where each image on the way goes on to the next one (own).
+-- A put, leaf by leaf, where each image on the way goes on to the next one (own).
 use Rattle.std.specs.Prelude.{◌≡◌, ℕ, List, [], ◌∷◌, false}
-use Rattle.cdf_edits.specs.Commands.PutSteps.{Put, Stage, PutsUpTo}
+use Rattle.std.specs.List.{flat_map}
+use Rattle.cdf_edits.specs.Commands.PutSteps.{Put, Stage, PutsLeaves, PutsUpTo}
 use Rattle.cdf_edits.specs.Edits.Standing.{StandsAmong}
 use Rattle.cdf_edits.specs.Index.Blocks.{cuts_before_put, first_written}
 use Rattle.cdf_edits.specs.Space.Acts.{Act}
@@ -26,13 +27,26 @@ abbrev pub GoAlong : Kind → List VariableShape → List VariableShape → Stag
 GoAlong kind before after from [] = Unit {0}
 GoAlong kind before after from (next ∷ more) = GoesOn from.image next.image kind before from.own next.own after next.acts × GoAlong kind before after next more
 
--- By these acts a put went as far as this image.
+-- By these acts a put went from one image to another.
+pub record LeavesAlong (p : Put) (kind : Kind) (before after : List VariableShape) (from to : Stage) (acts : List Act) : Type 0 where
+  pub stages : List Stage
+  pub puts : PutsLeaves p from stages to
+  pub acts_are : acts ≡ flat_map (λ stage. stage.acts) stages
+  pub go : GoAlong kind before after from stages
+
+-- By these acts a put of which nothing is cut first went as far as this image.
 pub record PutsAlong (b : List ℕ) (kind : Kind) (before : List VariableShape) (own : VariableShape) (after : List VariableShape) (n : ℕ) (raw : List ℕ) (to : Stage) (acts : List Act) : Type 0 where
   pub good : Good b
   pub among : StandsAmong b kind before own after
   pub uncut : cuts_before_put (variable_of b own) n ≡ false
   pub puts : PutsUpTo b (put_in b kind before own n raw) own to acts
   pub go : GoAlong kind before after puts.start puts.stages
+
+-- By these acts a put of which nothing is left to be cut went as far as this image.
+pub record LeavesPut (b : List ℕ) (kind : Kind) (before : List VariableShape) (own : VariableShape) (after : List VariableShape) (n : ℕ) (raw : List ℕ) (to : Stage) (acts : List Act) : Type 0 where
+  pub good : Good b
+  pub among : StandsAmong b kind before own after
+  pub along : LeavesAlong (put_in b kind before own n raw) kind before after (at_start b (put_in b kind before own n raw) own) to acts
 
 -- the pad, as it is stored
 abbrev pub stored_pad : List ℕ → VariableShape → List ℕ

@@ -2,7 +2,7 @@
 
 ghost use Rattle.std.specs.Prelude.{◌≡◌, ◌<◌, ◌≤◌, ◌++◌, ℕ, List, [], length, false};
 ghost use Rattle.cdf_edits.specs.Commands.Allowances.{AllKeep};
-ghost use Rattle.cdf_edits.specs.Commands.PutSteps.{PutsBySteps, PutsLeaf, Stage};
+ghost use Rattle.cdf_edits.specs.Commands.PutSteps.{Put, PutsBySteps, PutsLeaf, Stage};
 ghost use Rattle.cdf_edits.specs.Commands.Puts.{put_changes};
 ghost use Rattle.cdf_edits.specs.Edits.Standing.{StandsAmong};
 ghost use Rattle.cdf_edits.specs.Index.Blocks.{cuts_before_put};
@@ -22,7 +22,7 @@ ghost use Rattle.cdf_model.specs.RecordSteps.{with_record};
 ghost use Rattle.cdf_model.specs.declared.kinds.Kind.{Kind};
 ghost use Rattle.cdf_puts.specs.Going.{GoesOn, found_in};
 ghost use Rattle.cdf_puts.specs.SoFar.{MaxRecDone};
-ghost use Rattle.cdf_put_steps.specs.Along.{PutsAlong, at_start, put_in, stored_pad};
+ghost use Rattle.cdf_put_steps.specs.Along.{LeavesAlong, PutsAlong, at_start, put_in, stored_pad};
 
 /// Two steps from image to image, each by acts of any kind, are one.
 pub fn images_go_along()
@@ -33,6 +33,13 @@ pub fn images_go_along()
 pub fn put_goes_along()
     ensures starts { (b : List ℕ) (kind : Kind) (before : List VariableShape) (own : VariableShape) (after : List VariableShape) (n : ℕ) (raw : List ℕ) → Good b → StandsAmong b kind before own after → cuts_before_put (variable_of b own) n ≡ false → PutsAlong b kind before own after n raw (at_start b (put_in b kind before own n raw) own) [] }
     ensures leads { (b : List ℕ) (kind : Kind) (before : List VariableShape) (own : VariableShape) (after : List VariableShape) (n : ℕ) (raw : List ℕ) (mid to : Stage) (acts : List Act) → PutsAlong b kind before own after n raw mid acts → PutsLeaf (put_in b kind before own n raw) mid to → GoesOn mid.image to.image kind before mid.own to.own after to.acts → PutsAlong b kind before own after n raw to (acts ++ to.acts) }
+{}
+
+/// The leaves of a put begin with any image, and each leaf that is put leads them on. Where nothing is cut first they are the put.
+pub fn leaves_go_along()
+    ensures starts { (p : Put) (kind : Kind) (before after : List VariableShape) (from : Stage) → LeavesAlong p kind before after from from [] }
+    ensures leads { (p : Put) (kind : Kind) (before after : List VariableShape) (from mid to : Stage) (acts : List Act) → LeavesAlong p kind before after from mid acts → PutsLeaf p mid to → GoesOn mid.image to.image kind before mid.own to.own after to.acts → LeavesAlong p kind before after from to (acts ++ to.acts) }
+    ensures puts { (b : List ℕ) (kind : Kind) (before : List VariableShape) (own : VariableShape) (after : List VariableShape) (n : ℕ) (raw : List ℕ) (to : Stage) (acts : List Act) → Good b → StandsAmong b kind before own after → cuts_before_put (variable_of b own) n ≡ false → LeavesAlong (put_in b kind before own n raw) kind before after (at_start b (put_in b kind before own n raw) own) to acts → PutsAlong b kind before own after n raw to acts }
 {}
 
 /// A put went past its record, and MaxRec was raised where that was due: the first image goes on to the last one, each record keeps what it has to, the steps are those of `put-rec`, and the content has the record.
