@@ -1,5 +1,6 @@
 -- Of a packed variable of which no leaf has records before a first one and this one too, all from this one on are cut out of the index: that is what a put under a rule cuts first.
-use Rattle.std.proofs.Common.{List, [], ap, arith, drop, false, inl, inr, length, refl, subst, sym, take, true, true≢false, ℕ, ◌*◌, ◌+◌, ◌-◌, ◌<◌, ◌∙◌, ◌≡◌, ◌≤◌}
+use Rattle.std.proofs.Common.{List, [], ap, arith, drop, false, inl, inr, length, map, refl, subst, sym, take, true, true≢false, ℕ, ◌*◌, ◌+◌, ◌-◌, ◌<◌, ◌∙◌, ◌≡◌, ◌≤◌}
+use Rattle.std.specs.List.{sum}
 use Rattle.std.specs.Prelude.{nat_le}
 use Rattle.cdf_edits.proofs.Common.{Act, Each, Good, Kind, Leaf, Stays, Variable, VariableShape, eq-eqb, extent, leaves_of, max_rec_at, plain_bytes, record_bytes, records_of_leaf, taken, variable_of}
 use Rattle.cdf_edits.proofs.Edits.ActsThen.{taken-gave}
@@ -10,6 +11,7 @@ use Rattle.cdf_edits.specs.Commands.PutSteps.{BlockWritten, CutsPast, Goes}
 use Rattle.cdf_edits.specs.Index.Cut.{CutsIndex, IsPart, IsPlaced, StaysWhole, is_whole}
 use Rattle.cdf_edits.specs.Index.Grown.{cut_nodes}
 use Rattle.cdf_puts.specs.Going.{found_in}
+use Rattle.cdf_puts.specs.SoFar.{taken_bytes}
 use Rattle.cdf_cuts.specs.Past.{EndCut, EndsOrGoes, before_first, cut_off, past_acts, past_span, stage}
 use Rattle.cdf_cuts.specs.Planning.{freed_of, plan_of}
 use Rattle.cdf_packed_cuts.proofs.CutStored.{cut_stored}
@@ -88,6 +90,9 @@ module _ {b now : List ℕ} {kind : Kind} {before : List VariableShape} {own : V
   stored : StoredBefore b now own own' first
   stored = cut_stored good at uncut e
 
+  nothing : taken_bytes acts ≡ 0
+  nothing = ap (λ (takes : List (ℕ × ℕ)). sum (map (λ (take : ℕ × ℕ). take.1) takes)) gives
+
   pub past_at_once : PackedPast b now kind before own after first
   past_at_once = record {
     own' = own';
@@ -100,6 +105,8 @@ module _ {b now : List ℕ} {kind : Kind} {before : List VariableShape} {own : V
     content_is = content_cut good at e.goes_on e.max_rec_is stored;
     max_rec_is = e.max_rec_is;
     r_max_rec_is = e.r_max_rec_is;
+    fits = λ room within. omega (arith, nothing);
+    longer = omega (arith, e.long);
   }
     where
       begins : (l : Leaf) → IsOneOf leaves l → l.last < first → l.first < first

@@ -1,21 +1,29 @@
 -- A leaf of a packed variable is given its records before a first one alone, and then all from this one on are cut: that is what a put under a rule cuts first.
-use Rattle.std.proofs.Common.{List, [], ap, false, refl, subst, sym, take, true, ℕ, ◌*◌, ◌+◌, ◌-◌, ◌<◌, ◌∙◌, ◌≡◌}
-use Rattle.std.specs.Prelude.{nat_le}
-use Rattle.cdf_edits.proofs.Common.{Each, Kind, Leaf, Stays, Variable, VariableShape, extent, leaves_of, max_rec_at, number, plain_bytes, r_max_rec, record_bytes, variable_of, vdr_max_rec}
-use Rattle.cdf_edits.proofs.Edits.LeafPieces.{IsOneOf, each_of}
+use Rattle.std.proofs.Common.{List, [], ap, arith, false, inl, inr, length, map, refl, subst, sym, take, true, ℕ, ◌*◌, ◌+◌, ◌-◌, ◌<◌, ◌∙◌, ◌∷◌, ◌≡◌, ◌≤◌}
+use Rattle.std.specs.List.{sum}
+use Rattle.std.specs.Prelude.{max, nat_le}
+use Rattle.cdf_edits.proofs.Common.{ActsFollow, Each, Gave, Kind, Leaf, Stays, Took, Variable, VariableShape, either, extent, leaves_of, max_rec_at, number, plain_bytes, r_max_rec, record_bytes, size_at, variable_of, vdr_max_rec}
+use Rattle.cdf_edits.proofs.Edits.LeafPieces.{IsOneOf, each_of, times_le}
 use Rattle.cdf_edits.specs.Commands.PutSteps.{BlockWritten, CutsPast, Goes}
 use Rattle.cdf_edits.specs.Index.Cut.{CutsIndex, IsPart, IsPlaced, is_whole}
 use Rattle.cdf_edits.specs.Index.Grown.{cut_nodes}
+use Rattle.cdf_edits.specs.Index.Written.{block_need}
+use Rattle.cdf_edits.specs.Space.Acts.{OnlyTakes}
+use Rattle.cdf_puts.proofs.PutRoom.{longer_by, longer_moved}
 use Rattle.cdf_puts.specs.Going.{found_in}
+use Rattle.cdf_puts.specs.SoFar.{taken_bytes}
 use Rattle.cdf_cuts.specs.Past.{before_first, cut_off, stage}
 use Rattle.cdf_packed_cuts.proofs.PackedContent.{content_cut, variable_cut}
-use Rattle.cdf_packed_cuts.proofs.TwoActs.{acts, lasts, takes_first}
+use Rattle.cdf_packed_cuts.proofs.TwoActs.{acts, first_acts, if_moved, if_stays, lasts, stays, taken_is, takes_first}
 use Rattle.cdf_packed_cuts.proofs.TwoGoes.{block_stays, goes, goes_on}
 use Rattle.cdf_packed_cuts.proofs.TwoIndex.{all_placed, cuts, part_of_old}
 use Rattle.cdf_packed_cuts.proofs.TwoSteps.{TwoSteps}
 use Rattle.cdf_packed_cuts.proofs.TwoStored.{stored}
 use Rattle.cdf_packed_cuts.proofs.TwoWritten as of_block
-use Rattle.cdf_packed_cuts.specs.Past.{PackedPast}
+use Rattle.cdf_packed_cuts.specs.Past.{PackedPast, SplitsWithin}
+
+one_moved : (place need old size : ℕ) → taken_bytes (Took place need ∷ Gave old size ∷ []) ≡ need
+one_moved place need old size = omega arith
 
 module _ {b mid now : List ℕ} {kind : Kind} {before : List VariableShape} {own : VariableShape} {after : List VariableShape} {first : ℕ} {old new : Leaf} {plain : List ℕ} (t : TwoSteps b mid now kind before own after first old new plain) where
   abbrev v : Variable
@@ -67,6 +75,39 @@ module _ {b mid now : List ℕ} {kind : Kind} {before : List VariableShape} {own
   max_rec_own : number now own.vdr vdr_max_rec ≡ number b own.vdr vdr_max_rec
   max_rec_own = subst (λ (m : ℕ). number now m vdr_max_rec ≡ number b own.vdr vdr_max_rec) t.short.goes_on.vdr_is max_rec_is.0
 
+  -- ---- what is taken
+
+  need_most : block_need mid own.vdr new ≤ max 28 (12 + (old.last + 1 - old.first) * size)
+  need_most =
+      let is : length plain ≡ (new.last + 1 - new.first) * size = t.long in
+      let first_is = t.first_is in
+      let last_is = t.last_is in
+      let behind = t.split.behind in
+      let fewer = times_le (new.last + 1 - new.first) (old.last + 1 - old.first) size (omega arith) in
+      let needs = t.short.needs in
+      omega (arith, is, fewer, needs)
+
+  first_within : (room : ℕ) → SplitsWithin leaves size first room → taken_bytes (first_acts t) ≤ room
+  first_within room within = elim (either (stays t)) [
+    | inl e ↦ (let none : taken_bytes (first_acts t) ≡ 0 = ap taken_bytes (if_stays t e) in omega (arith, none))
+    | inr e ↦ (let one : taken_bytes (first_acts t) ≡ block_need mid own.vdr new = ap taken_bytes (if_moved t e) ∙ one_moved new.place (block_need mid own.vdr new) old.place (size_at b old.place) in let most = within old t.one t.split in omega (arith, one, most, need_most))
+  ]
+
+  taken_same : taken_bytes (acts t) ≡ taken_bytes (first_acts t)
+  taken_same = ap (λ (takes : List (ℕ × ℕ)). sum (map (λ (take : ℕ × ℕ). take.1) takes)) (taken_is t)
+
+  within_room : (room : ℕ) → SplitsWithin leaves size first room → taken_bytes (acts t) ≤ room
+  within_room room within = let one = first_within room within in omega (arith, taken_same, one)
+
+  longer_mid : length mid ≤ length b + taken_bytes (first_acts t)
+  longer_mid = elim (either (stays t)) [
+    | inl e ↦ longer_by b mid (first_acts t) t.short.goes_on.follow (subst OnlyTakes (sym (if_stays t e)) tt)
+    | inr e ↦
+        let one : taken_bytes (first_acts t) ≡ block_need mid own.vdr new = ap taken_bytes (if_moved t e) ∙ one_moved new.place (block_need mid own.vdr new) old.place (size_at b old.place) in
+        let by = longer_moved b mid new.place (block_need mid own.vdr new) old.place (size_at b old.place) (subst (ActsFollow b mid) (if_moved t e) t.short.goes_on.follow) in
+        omega (arith, one, by)
+  ]
+
   pub past_in_two : PackedPast b now kind before own after first
   past_in_two = record {
     own' = own2;
@@ -79,4 +120,6 @@ module _ {b mid now : List ℕ} {kind : Kind} {before : List VariableShape} {own
     content_is = content_cut t.good t.among (goes_on t) max_rec_own (stored t);
     max_rec_is = max_rec_own;
     r_max_rec_is = max_rec_is.1;
+    fits = within_room;
+    longer = (let long = t.cut.long in let more = longer_mid in omega (arith, long, more, taken_same));
   }

@@ -17,6 +17,7 @@ use Rattle.cdf_model.specs.DataSet.{Variable, extent}
 use Rattle.cdf_model.specs.VariableSteps.{with_variable}
 use Rattle.cdf_model.specs.declared.kinds.Kind.{Kind}
 use Rattle.cdf_puts.specs.Going.{GoesOn, found_in}
+use Rattle.cdf_puts.specs.SoFar.{taken_bytes}
 use Rattle.cdf_cuts.specs.Past.{stage}
 
 -- a leaf has records before the first one that goes, and this one too
@@ -27,6 +28,10 @@ pub record IsSplit (first : ℕ) (l : Leaf) : Type 0 where
 -- of such a leaf there is room for a new block with all its plain bytes, under a limit
 abbrev pub HasRoom : List ℕ → List Leaf → ℕ → ℕ → ℕ → Type 0
 HasRoom b leaves size first limit = (l : Leaf) → IsOneOf leaves l → IsSplit first l → length b + max linked_size (vvr_bytes ((l.last + 1 - l.first) * size)) ≤ limit
+
+-- of each such leaf the record of a block with all its plain bytes is within this room
+abbrev pub SplitsWithin : List Leaf → ℕ → ℕ → ℕ → Type 0
+SplitsWithin leaves size first room = (l : Leaf) → IsOneOf leaves l → IsSplit first l → max linked_size (vvr_bytes ((l.last + 1 - l.first) * size)) ≤ room
 
 -- ---- the records that are left
 
@@ -45,7 +50,7 @@ pub record StoredBefore (b now : List ℕ) (own own' : VariableShape) (first : �
 
 -- ---- the image
 
--- From one good image to another. What is past MaxRec is cut as a put under a rule does first, where the first record that goes is the one behind it. The blocks that end before it stay, and MaxRec and rMaxRec. The content is what it was, but for the records of the variable that went.
+-- From one good image to another. What is past MaxRec is cut as a put under a rule does first, where the first record that goes is the one behind it. The blocks that end before it stay, and MaxRec and rMaxRec. The content is what it was, but for the records of the variable that went. What is taken is within the room of a block that is cut in part.
 pub record PackedPast (b now : List ℕ) (kind : Kind) (before : List VariableShape) (own : VariableShape) (after : List VariableShape) (first : ℕ) : Type 0 where
   pub own' : VariableShape
   pub acts : List Act
@@ -57,3 +62,5 @@ pub record PackedPast (b now : List ℕ) (kind : Kind) (before : List VariableSh
   pub content_is : content now ≡ with_variable (content b) (found_in b kind before own) (cut_records (variable_of b own) first)
   pub max_rec_is : number now own.vdr vdr_max_rec ≡ number b own.vdr vdr_max_rec
   pub r_max_rec_is : r_max_rec now ≡ r_max_rec b
+  pub fits : (room : ℕ) → SplitsWithin (leaves_of own.index) (record_bytes b own.vdr) first room → taken_bytes acts ≤ room
+  pub longer : length now ≤ length b + taken_bytes acts

@@ -3,4 +3,4 @@
 
 mod past;
 
-pub use past::cut_packed_past;
+pub use past::{cut_packed_past, find_split};

@@ -27,7 +27,7 @@ use std::alloc::Global;
 
 /// The leaf that has the record before a first one and this one too, and the entry that names its block; none where no leaf has both.
 #[tactic(auto, using(cdf_area::proofs::Calls::edit_done, cdf_area::proofs::Calls::edit_failed, cdf_area::proofs::Calls::edit_more, cdf_area::proofs::Calls::edits_by_read, cdf_area::proofs::Calls::keeps_by_read, cdf_area::proofs::Calls::read_failed, cdf_area::proofs::Calls::read_more, cdf_area::proofs::Calls::read_once))]
-fn find_split<A: Area>(
+pub fn find_split<A: Area>(
     alloc: Global,
     area: &mut A,
     vdr: u64,

@@ -1,0 +1,6 @@
+pub mod Outlined
+pub mod CutLeft
+pub mod CutRoom
+pub mod CutPacking
+pub mod CutPutDone
+pub mod CutPutContent
