@@ -24,7 +24,7 @@ use Rattle.cdf_cuts.proofs.CutWhole.{rest_order}
 use Rattle.cdf_cuts.proofs.CutWords.{cut}
 use Rattle.cdf_cuts.proofs.PastCut.{aside, space_tests}
 use Rattle.cdf_cuts.specs.Cut.{IsCut}
-use Rattle.cdf_compress.proofs.AllContent.{content_stays}
+use Rattle.cdf_sparse.proofs.AllContent.{content_stays}
 use Rattle.cdf_compress.specs.Emptying.{Emptied, all_acts, all_freed, all_span, emptied}
 
 module _ {b now : List ℕ} {kind : Kind} {before : List VariableShape} {own : VariableShape} {after : List VariableShape} (good : Good b) (at : StandsAmong b kind before own after) (short : length b ≤ image_limit) (c : IsCut b now kind own all_span) where

@@ -16,7 +16,7 @@ use Rattle.cdf_puts.proofs.GoesKeep.{each_own, unused_stays}
 use Rattle.cdf_cuts.proofs.WritesThen.{links}
 use Rattle.cdf_gaps.proofs.FreedThenTaken.{freed_then_taken, listed_first}
 use Rattle.cdf_sparse.proofs.AnyThenFreed.{any_then_freed}
-use Rattle.cdf_compress.proofs.AllContent.{same_variable}
+use Rattle.cdf_sparse.proofs.AllContent.{same_variable}
 use Rattle.cdf_compress.proofs.FreedKept.{freed_then, taken_then}
 use Rattle.cdf_compress.specs.Emptying.{Emptied, all_acts, all_freed, emptied}
 use Rattle.cdf_compress.specs.Repacking.{Repacked}

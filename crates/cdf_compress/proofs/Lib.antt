@@ -1,4 +1,3 @@
-pub mod AllContent
 pub mod AllCut
 pub mod AlreadyPacked
 pub mod CompressionCalls

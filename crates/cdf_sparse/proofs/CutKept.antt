@@ -1,24 +1,29 @@
--- All records of a variable were cut out of its index: of its descriptor VXRhead and VXRtail alone changed, and of the GDR the fields that say where space is. It is a cut after which later records keep their numbers, and no record is left.
+-- All records of a variable, packed or not, were cut out of its index: of its descriptor VXRhead and VXRtail alone changed, of the GDR the fields that say where space is, and the record of its parameters stays. It is a cut after which later records keep their numbers, and no record is left.
 use Rattle.cdf_cuts.proofs.Common.{Each, In, Leaf, List, Nodes, [], ap, arith, ne_eqb, slice_get, subst, suc, sym, inl, inr, length, map, zero, ℕ, ◌++◌, ◌+◌, ◌∙◌, ◌∷◌, ◌==◌, ◌≡◌, ◌≤◌}
 use Rattle.cdf_edits.proofs.Common.{Act, AllKeep, Allowance, Allowances, Bool, Field, Good, HasShape, Keeps, Kind, OneVariable, Only, Owner, R, Some, Stays, Unused, Variable, VariableShape, Z, allowance, cdr_type, eq-eqb, gdr_type, is_a-type, owned, owned_by, owned_by_attributes, owned_by_variables, range_at, shape, shapes_of, space_fields, type_at, unused_records, variable_of, variable_records, vdr_vxr_head, vdr_vxr_tail, if◌then◌else◌, leaves_of, lt-ltb, no_node, range, refl, true, Range, Option, nat_le, nat_lt, flat_map, le-ltb, false}
 use Rattle.cdf_edits.proofs.Commands.ChainsStay.{AllKeep-split}
 use Rattle.cdf_edits.proofs.Edits.Common.{StandsAmong, gdr_typed, sound}
 use Rattle.cdf_edits.proofs.Edits.LeafPieces.{IsOneOf, each_of, in_order}
-use Rattle.cdf_edits.proofs.Edits.PlainLeaves.{leaves_ascend}
+use Rattle.cdf_edits.proofs.Edits.ActsThen.{taken-gave}
+use Rattle.cdf_edits.proofs.Edits.PlainLeaves.{leaves_ascend, own_rules}
+use Rattle.cdf_edits.proofs.Edits.VariableCopied.{cpr_behind}
 use Rattle.cdf_edits.specs.Commands.Allowances.{anything_if}
 use Rattle.cdf_edits.specs.Commands.PutSteps.{Goes, step_changes}
 use Rattle.cdf_edits.specs.Index.Blocks.{shared}
 use Rattle.cdf_edits.specs.Index.Cut.{CutsIndex}
 use Rattle.cdf_edits.specs.Index.Grown.{index_cut_open, split_off, with_ranges}
+use Rattle.cdf_edits.specs.Space.Acts.{taken}
+use Rattle.cdf_index.proofs.LeafRules.{index_order}
 use Rattle.cdf_index.proofs.OwnRecords as of_own
 use Rattle.cdf_model.specs.Limits.{record_number_limit}
 use Rattle.cdf_puts.proofs.Common.{same_as_itself}
 use Rattle.cdf_puts.proofs.GoesThen.{own_there}
-use Rattle.cdf_puts.proofs.PutRules.{no_cpr}
 use Rattle.cdf_puts.specs.Going.{found_in}
 use Rattle.cdf_puts.proofs.GoesKeep.{each_own, goes_keep}
-use Rattle.cdf_cuts.proofs.PastFollows.{none_left}
-use Rattle.cdf_cuts.specs.Past.{CutPast, before_first, cut_off, past_acts, stage}
+use Rattle.cdf_cuts.proofs.CutAll.{all_gone}
+use Rattle.cdf_cuts.specs.Past.{EndCut, before_first, cut_off, past_acts, past_span, stage}
+use Rattle.cdf_cuts.specs.Planning.{freed_of, plan_of}
+use Rattle.cdf_sparse.proofs.OwnParameters.{cpr_allowed}
 use Rattle.cdf_edits.specs.Commands.Deleting.{CutsOpen, LeafKept, LeafSplit, untouched}
 
 -- ---- a record among those that keep what they have to
@@ -93,7 +98,7 @@ none_split_off : (ls : List Leaf) → Each (λ (l : Leaf). l.last ≤ record_num
 none_split_off [] small = refl
 none_split_off (l ∷ ls) small = rw (none_split l.first l.last small.0, none_split_off ls small.1) refl
 
-module _ {b now : List ℕ} {kind : Kind} {before : List VariableShape} {own : VariableShape} {after : List VariableShape} (good : Good b) (at : StandsAmong b kind before own after) (x : CutPast b now kind before own (cut_off own 0) after 0) where
+module _ {b now : List ℕ} {kind : Kind} {before : List VariableShape} {own : VariableShape} {after : List VariableShape} (good : Good b) (at : StandsAmong b kind before own after) (x : EndCut b now kind before own (cut_off own 0) after 0) where
   abbrev v : Variable
   v = variable_of b own
 
@@ -105,6 +110,12 @@ module _ {b now : List ℕ} {kind : Kind} {before : List VariableShape} {own : V
 
   abbrev acts : List Act
   acts = past_acts b own 0
+
+  pub none_left : own'.index ≡ no_node
+  none_left = all_gone own.index (index_order b (shape b).records own.vdr own.index (own_rules good at).1)
+
+  pub none_taken : taken acts ≡ []
+  none_taken = taken-gave b (freed_of (plan_of (past_span 0) 0 own.index))
 
   abbrev past : Range → Bool
   past r = nat_le 0 r.last
@@ -127,6 +138,13 @@ module _ {b now : List ℕ} {kind : Kind} {before : List VariableShape} {own : V
   pub cut_vdr : Stays b now own.vdr heads
   cut_vdr = subst (Keeps b now own.vdr) (of_vdr past) (own_kept b now (step_changes b (found_in b kind before own) past) acts good at (x.goes 0).keeps own.vdr (inl refl))
 
+  of_cpr : (changes : Range → Bool) (m : ℕ) → In m own.cpr → own_may changes m ≡ Only []
+  of_cpr changes = cpr_allowed (found_in b kind before own) good at refl heads (block_may changes) (own_may changes) (allowed changes)
+
+  -- the record of its parameters stays
+  pub cut_cpr : (m : ℕ) → In m own.cpr → Stays b now m []
+  cut_cpr m i = subst (Keeps b now m) (of_cpr past m i) (own_kept b now (step_changes b (found_in b kind before own) past) acts good at (x.goes 0).keeps m (inr (cpr_behind own m i)))
+
   -- ---- as a cut after which later records keep their numbers
 
   abbrev meets : Range → Bool
@@ -145,7 +163,7 @@ module _ {b now : List ℕ} {kind : Kind} {before : List VariableShape} {own : V
   own_keeps = each_own (λ (m : ℕ). Keeps b now m (own_may meets m)) own (rw (of_vdr meets) cut_vdr)
       (λ m i. rw (of_own.node_allowed (found_in b kind before own) good at refl heads (block_may meets) (own_may meets) (allowed meets) m i) tt)
       (λ l i. rw (of_own.block_allowed (found_in b kind before own) good at refl heads (block_may meets) (own_may meets) (allowed meets) l i) (block_keeps l i))
-      (λ m i. absurd (subst (In m) (no_cpr good at x.loose) i))
+      (λ m i. rw (of_cpr meets m i) (cut_cpr m i))
 
   goes : Goes (found_in b kind before own) (untouched b own) (stage now own' acts 0) meets
   goes =
@@ -159,8 +177,8 @@ module _ {b now : List ℕ} {kind : Kind} {before : List VariableShape} {own : V
   pub cuts_open : CutsOpen (found_in b kind before own) 0 record_number_limit (untouched b own) (stage now own' acts 0)
   cuts_open = record {
     index = subst (λ (y : Nodes). CutsIndex v (before_first 0) own.index y own'.index acts) (sym index_same) (x.cuts v);
-    kept = each_of (λ old. Each (LeafKept (found_in b kind before own) 0 record_number_limit (untouched b own) (stage now own' acts 0) old) (leaves_of own'.index)) leaves (λ old i. none_each (LeafKept (found_in b kind before own) 0 record_number_limit (untouched b own) (stage now own' acts 0) old) own'.index (none_left good at x));
-    split = each_of (λ old. Each (LeafSplit (found_in b kind before own) 0 record_number_limit (untouched b own) (stage now own' acts 0) old) (leaves_of own'.index)) leaves (λ old i. none_each (LeafSplit (found_in b kind before own) 0 record_number_limit (untouched b own) (stage now own' acts 0) old) own'.index (none_left good at x));
+    kept = each_of (λ old. Each (LeafKept (found_in b kind before own) 0 record_number_limit (untouched b own) (stage now own' acts 0) old) (leaves_of own'.index)) leaves (λ old i. none_each (LeafKept (found_in b kind before own) 0 record_number_limit (untouched b own) (stage now own' acts 0) old) own'.index none_left);
+    split = each_of (λ old. Each (LeafSplit (found_in b kind before own) 0 record_number_limit (untouched b own) (stage now own' acts 0) old) (leaves_of own'.index)) leaves (λ old i. none_each (LeafSplit (found_in b kind before own) 0 record_number_limit (untouched b own) (stage now own' acts 0) old) own'.index none_left);
     goes = goes;
     next_is = refl;
   }

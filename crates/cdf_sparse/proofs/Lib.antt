@@ -28,6 +28,8 @@ pub mod TwiceKeeps
 pub mod TwiceRoom
 pub mod OpeningWithin
 pub mod TwiceFollows
+pub mod AllContent
+pub mod OwnParameters
 pub mod RuledVdr
 pub mod SetRuleWritten
 pub mod CutKept

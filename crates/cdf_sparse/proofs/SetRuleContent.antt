@@ -1,12 +1,11 @@
 -- All blocks of a variable without records went, and then its rule for missing records was written: the variable says the rule, all else that it means stays, and each record keeps what `set-sparse` leaves of it.
-use Rattle.cdf_edits.proofs.Common.{Act, AllKeep, Allowance, Allowances, Anything, DataSet, Field, Good, In, Keeps, Kind, List, OneVariable, Only, Option, Range, Stays, Unused, Variable, VariableShape, [], ap, arith, attribute_records, content, eq-eqb, extent, flat_map, if◌then◌else◌, inl, inr, length, linkable-type, max_rec_at, number, owned, range_at, refl, shape, shapes_of, space_fields, sparse_at, subst, suc, sym, type_at, uir_type, unused_records, variable_of, variable_records, with_variable, ℕ, ◌==◌, ◌∙◌, ◌∷◌, ◌≡◌, ◌≤◌}
+use Rattle.cdf_edits.proofs.Common.{Act, AllKeep, Allowance, Allowances, Anything, DataSet, Field, Good, In, Keeps, Kind, List, OneVariable, Only, Option, Range, Stays, Unused, Variable, VariableShape, [], ap, attribute_records, content, eq-eqb, flat_map, if◌then◌else◌, inl, inr, length, linkable-type, number, owned, range_at, refl, shape, shapes_of, space_fields, sparse_at, subst, suc, sym, type_at, uir_type, unused_records, variable_of, variable_records, with_variable, ℕ, ◌==◌, ◌∙◌, ◌∷◌, ◌≡◌}
 use Rattle.cdf_edits.proofs.Commands.KeptRecords.{Stood, keep_attributes, keep_variables, keeps_stood}
 use Rattle.cdf_edits.proofs.Edits.ActsJoined.{ListedStay}
 use Rattle.cdf_edits.proofs.Edits.Common.{FileSame, StandsAmong, keep_all, keep_file, keep_kinds, keep_places, keep_variable_parts, other_kind, sound, stays_then, typed}
 use Rattle.cdf_edits.proofs.Edits.StandsAmong.{only}
 use Rattle.cdf_edits.proofs.Frame.OwnersApart.{unused_in}
 use Rattle.cdf_puts.proofs.Common.{same_as_itself}
-use Rattle.cdf_puts.proofs.PutRules.{no_cpr}
 use Rattle.cdf_edits.proofs.Edits.RecordGrown.{kept_then}
 use Rattle.cdf_edits.specs.Commands.Cuts.{set_sparse_changes}
 use Rattle.cdf_format.specs.Records.{vdr_s_records}
@@ -15,11 +14,11 @@ use Rattle.cdf_model.specs.declared.kinds.Sparse.{Sparse}
 use Rattle.cdf_model.specs.declared.kinds.Sparse.TheVariants.{NoRule, Pad, Previous}
 use Rattle.cdf_puts.specs.Going.{IsOther, LooseStay, found_in}
 use Rattle.cdf_puts.proofs.GoesKeep.{each_own, unused_stays}
-use Rattle.cdf_cuts.proofs.PastContent.{content_past, variable_past}
-use Rattle.cdf_cuts.proofs.PastFollows.{none_left}
 use Rattle.cdf_cuts.proofs.WritesThen.{links}
 use Rattle.cdf_cuts.specs.Past.{cut_off, past_acts}
-use Rattle.cdf_sparse.proofs.CutKept.{cut_gdr, cut_vdr, heads}
+use Rattle.cdf_sparse.proofs.AllContent.{content_stays, same_variable}
+use Rattle.cdf_sparse.proofs.CutKept.{cut_cpr, cut_gdr, cut_vdr, heads, none_left}
+use Rattle.cdf_sparse.proofs.OwnParameters.{cpr_allowed, cpr_apart}
 use Rattle.cdf_sparse.proofs.RuledVdr.{variable_ruled}
 use Rattle.cdf_sparse.proofs.SetRuleWritten as of_rule
 use Rattle.cdf_sparse.proofs.SetRuleWritten.{used_vdr}
@@ -74,19 +73,16 @@ module _ {b mid now : List ℕ} {kind : Kind} {before : List VariableShape} {own
   pub rule_is : sparse_at now own.vdr ≡ rule
   rule_is = rule_said rule (number now own.vdr vdr_s_records) s.written.code_is
 
-  none_stored : extent (max_rec_at b own.vdr) ≤ 0
-  none_stored = omega (arith, s.none_stored)
-
   pub variable_is : variable_of now own' ≡ record v { sparse = rule }
   variable_is =
-      let was = variable_past s.good s.among s.cut none_stored in
+      let was = same_variable s.good s.among s.cut.goes_on (cut_vdr s.good s.among s.cut) s.none_stored in
       let said = rule_is in
       variable_ruled rule_file own' (of_rule.ruled_vdr good_mid among_mid w) (none_left s.good s.among s.cut) ∙ (λ i. record (was i) { sparse = said i })
 
   pub content_ruled : content now ≡ with_variable (content b) (found_in b kind before own) (record v { sparse = rule })
   content_ruled =
       of_rule.rule_content good_mid among_mid w ∙ ap (λ (u : Variable). with_variable (content mid) (found_in b kind before own) u) variable_is
-      ∙ ap (λ (d : DataSet). with_variable d (found_in b kind before own) (record v { sparse = rule })) (content_past s.good s.among s.cut none_stored)
+      ∙ ap (λ (d : DataSet). with_variable d (found_in b kind before own) (record v { sparse = rule })) (content_stays s.good s.among s.cut.goes_on (cut_vdr s.good s.among s.cut) s.none_stored)
 
   -- ---- the records beside the descriptor
 
@@ -146,7 +142,7 @@ module _ {b mid now : List ℕ} {kind : Kind} {before : List VariableShape} {own
   own_keeps = each_own (λ (m : ℕ). Keeps b now m (own_may m)) own (rw (of_own.descriptor_allowed (found_in b kind before own) s.good s.among refl fields block_may own_may allowed) vdr_then)
       (λ m i. rw (of_own.node_allowed (found_in b kind before own) s.good s.among refl fields block_may own_may allowed m i) tt)
       (λ l i. rw (of_own.block_allowed (found_in b kind before own) s.good s.among refl fields block_may own_may allowed l i) tt)
-      (λ m i. absurd (subst (In m) (no_cpr s.good s.among s.cut.loose) i))
+      (λ m i. rw (cpr_allowed (found_in b kind before own) s.good s.among refl fields block_may own_may allowed m i) (beside m [] (cpr_apart s.good s.among m i) (cut_cpr s.good s.among s.cut m i)))
 
   pub rule_keeps : AllKeep b now may acts (owned b (shape b))
   rule_keeps =

@@ -13,9 +13,8 @@ use Rattle.cdf_format.specs.WellFormed.{Good}
 use Rattle.cdf_puts.proofs.Common.{same_Some}
 use Rattle.cdf_puts.proofs.GoesThen.{own_there}
 use Rattle.cdf_puts.specs.Going.{found_in}
-use Rattle.cdf_cuts.proofs.PastFollows.{cuts_all}
 use Rattle.cdf_cuts.specs.Past.{cut_off, past_acts, stage}
-use Rattle.cdf_sparse.proofs.CutKept.{cuts_open}
+use Rattle.cdf_sparse.proofs.CutKept.{cuts_open, none_taken as all_given}
 use Rattle.cdf_sparse.proofs.SetRuleContent.{content_ruled, rule_among, rule_is, rule_keeps, rule_lies}
 use Rattle.cdf_sparse.proofs.SetRuleWritten as of_rule
 use Rattle.cdf_edits.specs.Commands.Deleting.{SetsSparse}
@@ -44,7 +43,7 @@ module _ {b mid now : List ℕ} {kind : Kind} {before : List VariableShape} {own
   w = s.written
 
   none_taken : taken acts ≡ []
-  none_taken = (cuts_all s.good s.among s.cut).takes_none
+  none_taken = all_given s.good s.among s.cut
 
   -- ---- what was freed
 

@@ -4,7 +4,7 @@ use Rattle.cdf_model.specs.DataSet.{extent}
 use Rattle.cdf_model.specs.declared.kinds.Kind.{Kind}
 use Rattle.cdf_model.specs.declared.kinds.Sparse.{Sparse}
 use Rattle.cdf_model.specs.declared.kinds.Sparse.TheVariants.{NoRule, Pad, Previous}
-use Rattle.cdf_cuts.specs.Past.{CutPast, cut_off}
+use Rattle.cdf_cuts.specs.Past.{EndCut, cut_off}
 use Rattle.cdf_edits.specs.Edits.Standing.{StandsAmong}
 use Rattle.cdf_edits.specs.Frame.Changed.{Changed, touched_field}
 use Rattle.cdf_format.specs.Fields.{number}
@@ -25,11 +25,11 @@ pub record RuleWritten (b now : List ℕ) (vdr code : ℕ) : Type 0 where
   pub as_long : length now ≡ length b
   pub code_is : number now vdr vdr_s_records ≡ code
 
--- all blocks of a variable without records went, and then its rule was written
+-- all blocks of a variable without records went, packed or not, and then its rule was written
 pub record SetRule (b mid now : List ℕ) (kind : Kind) (before : List VariableShape) (own : VariableShape) (after : List VariableShape) (rule : Sparse) : Type 0 where
   pub good : Good b
   pub among : StandsAmong b kind before own after
   pub none_stored : extent (max_rec_at b own.vdr) ≡ 0
-  pub cut : CutPast b mid kind before own (cut_off own 0) after 0
+  pub cut : EndCut b mid kind before own (cut_off own 0) after 0
   pub written : RuleWritten mid now own.vdr (rule_code rule)
   pub still_good : Good now

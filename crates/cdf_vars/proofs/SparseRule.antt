@@ -1,18 +1,23 @@
 -- What `set-sparse` answers, of a variable whose descriptor was found: SRecords was written once its blocks were gone, and the last image follows the command.
-use Rattle.cdf_vars.proofs.Common.{Answers, DataSet, Done, Good, InUse, Kind, Known, Knows, LiesIn, List, Plain, Refused, Shape, VarId, Variable, ap, arith, byte, cast_signed, cast_unsigned, content, extent, false, field_reads, gone, high, image_limit, length, length-with_field, long, map, max_rec_at, ne_eqb, number, other_bytes, pos, refl, refused, shapes_of, subst, sym, variable_of, variables_of, vdrs, with_field, ℕ, ℤ, ◌==◌, ◌∙◌, ◌≡◌, ◌≤◌}
+use Rattle.cdf_vars.proofs.Common.{Answers, DataSet, Done, Each, Good, InUse, Kind, Known, Knows, Leaf, LiesIn, List, Plain, Refused, Shape, VarId, Variable, ap, arith, byte, cast_signed, cast_unsigned, content, extent, false, field_reads, gone, high, image_limit, inr, length, length-with_field, long, map, max_rec_at, ne_eqb, number, other_bytes, pos, refl, refused, shapes_of, subst, sym, variable_of, variables_of, vdrs, with_field, ℕ, ℤ, ◌==◌, ◌∙◌, ◌≡◌, ◌≤◌}
 use Rattle.std.proofs.Common.{w32}
-use Rattle.cdf_cuts.proofs.PastFollows.{none_left}
-use Rattle.cdf_cuts.specs.Past.{CutPast, cut_off}
+use Rattle.cdf_cuts.specs.Past.{EndCut, PlainOrUncut, cut_off}
+use Rattle.cdf_edits.proofs.Edits.LeafPieces.{each_of}
 use Rattle.cdf_format.specs.Records.{vdr_s_records}
 use Rattle.cdf_model.specs.declared.command.Command.TheVariants.{SetSparse}
 use Rattle.cdf_model.specs.declared.kinds.Sparse.{Sparse}
 use Rattle.cdf_model.specs.declared.kinds.Sparse.TheVariants.{NoRule, Pad, Previous}
+use Rattle.cdf_sparse.proofs.CutKept.{none_left}
 use Rattle.cdf_sparse.proofs.SetRuleContent as of_content
 use Rattle.cdf_sparse.proofs.SetRuleFollows.{follows_rule, set_sparse_goes}
 use Rattle.cdf_sparse.specs.SetRule.{RuleWritten, SetRule, rule_code}
 use Rattle.cdf_vars.proofs.PutRead.{names_set, places_on}
 use Rattle.cdf_vars.proofs.RuledGood.{ruled_good}
 use Rattle.cdf_vars.proofs.VariableFound.{Parts, item_found, knows_now}
+
+-- a cut of all records leaves no block in part
+pub none_in_part : (leaves : List Leaf) → Each (PlainOrUncut 0) leaves
+none_in_part leaves = each_of (PlainOrUncut 0) leaves (λ l i. inr (inr (omega arith)))
 
 -- each code of a rule is one that SRecords may have
 small_code : (rule : Sparse) → rule_code rule ≤ 2
@@ -37,7 +42,7 @@ module _ {b : List ℕ} {name : List ℕ} {known : Known} {id : VarId} (good : G
       refused limit b (SetSparse name rule) InUse (rw (p.named, here) refl)
 
   -- it has none, and its blocks went
-  module _ (none : extent (max_rec_at b vdr) ≡ 0) {mid : List ℕ} (cut : CutPast b mid id.kind p.before p.own (cut_off p.own 0) p.after 0) where
+  module _ (none : extent (max_rec_at b vdr) ≡ 0) {mid : List ℕ} (cut : EndCut b mid id.kind p.before p.own (cut_off p.own 0) p.after 0) where
     abbrev mid_good : Good mid
     mid_good = cut.goes_on.good
 

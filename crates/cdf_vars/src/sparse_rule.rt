@@ -9,11 +9,10 @@ ghost use Rattle.cdf_model.specs.Turns.{is_refused};
 ghost use Rattle.cdf_model.specs.declared.command.Command.TheVariants.{SetSparse};
 ghost use Rattle.cdf_sparse.specs.SetRule.{rule_code};
 ghost use Rattle.cdf_vars.specs.Known.{Knows};
-ghost use Rattle.cdf_format.specs.NotRead.{IsRead};
 
 use crate::vars::Vars;
 use cdf_area::{Area, AreaError};
-use cdf_cuts::cut_past;
+use cdf_cuts::cut_end;
 use cdf_model::{Outcome, Reason, Reply, Sparse};
 use cdf_records::set_vdr_s_records;
 use cdf_var_records::read_extent;
@@ -30,8 +29,8 @@ fn rule_code(rule: Sparse) -> i32
 }
 
 impl Vars {
-    /// Sets the rule for missing records of a variable that has no records: the command `set-sparse`. Blocks that stand past MaxRec go. After an
-    /// error a part of this may have been done in the area.
+    /// Sets the rule for missing records of a variable that has no records: the command `set-sparse`. Blocks that stand past MaxRec go, packed or
+    /// not. After an error a part of this may have been done in the area.
     #[tactic(auto, using(cdf_area::proofs::Calls::edit_done, cdf_area::proofs::Calls::edit_failed, cdf_area::proofs::Calls::edit_more, cdf_area::proofs::Calls::edits_by_read, cdf_area::proofs::Calls::keeps_by_read, cdf_area::proofs::Calls::read_failed, cdf_area::proofs::Calls::read_more, cdf_area::proofs::Calls::read_once))]
     pub fn set_sparse<A: Area>(
         &self,
@@ -40,7 +39,6 @@ impl Vars {
         rule: Sparse,
     ) -> Result<Outcome, AreaError>
         requires good { Good (A.image area.old) }
-        requires read { IsRead (A.image area.old) }
         requires known { Knows (A.image area.old) self.now }
         requires fits { length (A.image area.old) ≤ (A.frame area.old).limit }
         requires limit { (A.frame area.old).limit ≤ image_limit }
@@ -61,7 +59,7 @@ impl Vars {
                 reason: Reason::InUse,
             });
         }
-        cut_past(self.alloc, area, vdr, 0)?;
+        cut_end(self.alloc, area, vdr, 0)?;
         set_vdr_s_records(area, vdr, rule_code(rule))?;
         Ok(Outcome::Done {
             reply: Reply::Plain,

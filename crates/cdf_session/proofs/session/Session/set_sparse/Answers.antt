@@ -1,13 +1,9 @@
-use Rattle.cdf_session.proofs.Common.{SetSparse, refl, subst, sym}
+use Rattle.cdf_session.proofs.Common.{SetSparse, refl}
 use Rattle.cdf_session.proofs.OpenLemmas.{good_stays, ends_on_own}
 use Rattle.cdf_session.proofs.session.Session.set_sparse.Goals as goal
-use Rattle.cdf_format.specs.NotRead.{IsRead}
 
 pub set_sparse-done-requires-clause-good : goal.set_sparse-done-requires-clause-good
 set_sparse-done-requires-clause-good g c = good_stays _ _ c.self.invariant.0.good c.mark.ensures.image
-
-pub set_sparse-done-requires-clause-read : goal.set_sparse-done-requires-clause-read
-set_sparse-done-requires-clause-read g c = subst IsRead (sym c.mark.ensures.image) c.self.invariant.0.read
 
 pub invariant_of-self : goal.invariant_of-self
 invariant_of-self g c = (
