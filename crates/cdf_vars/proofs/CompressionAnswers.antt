@@ -1,13 +1,11 @@
 -- What `set-compress` answers, of a variable whose descriptor was found: it has records, or there is no room for its parameters, or the last image follows the command.
-use Rattle.cdf_vars.proofs.Common.{Answers, DataSet, Done, Good, InUse, Kind, Known, Knows, List, Plain, Refused, TooLarge, VarId, Variable, ap, arith, content, extent, gone, image_limit, length, map, max_rec_at, ne_eqb, refused, refl, sym, too_large, variable_of, variables_of, vdrs, ℕ, ◌+◌, ◌-◌, ◌<◌, ◌∙◌, ◌≡◌, ◌≤◌, false}
+use Rattle.cdf_vars.proofs.Common.{Answers, DataSet, Done, Good, InUse, Kind, Known, Knows, List, Plain, Refused, TooLarge, VarId, Variable, ap, arith, content, extent, gone, length, map, max_rec_at, ne_eqb, refused, refl, sym, too_large, variable_of, variables_of, ℕ, ◌+◌, ◌-◌, ◌<◌, ◌∙◌, ◌≡◌, ◌≤◌, false}
 use Rattle.std.specs.Prelude.{Bool, true, ◌==◌, if◌then◌else◌, not}
 use Rattle.cdf_compress.specs.Compressing.{CompressionSet, packing_room}
-use Rattle.cdf_edits.specs.Commands.Room.{room}
 use Rattle.cdf_format.specs.Records.{cpr_bytes}
 use Rattle.cdf_format.specs.Shape.{is_compressed}
 use Rattle.cdf_model.specs.declared.command.Command.TheVariants.{SetCompress}
 use Rattle.cdf_model.specs.Answers.{Go}
-use Rattle.cdf_model.specs.Names.{Found}
 use Rattle.cdf_model.specs.Step.{ByStep, step}
 use Rattle.cdf_model.specs.VariableSteps.{with_variable}
 use Rattle.cdf_puts.specs.Going.{found_in}

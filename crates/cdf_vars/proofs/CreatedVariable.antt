@@ -1,5 +1,5 @@
 -- A new variable: the making of its VDR leads from a good image to the one that follows, what is known of the variables then, and what the command is answered.
-use Rattle.cdf_vars.proofs.Common.{Act, All, AllKeep, Allowances, Answers, ByStep, Chain, DataSet, Does, Done, Follows, Go, Good, HasDims, HasShape, Hold, In, IsBody, IsGoodByShape, IsSound, JoinsVdr, Keeps, Kind, KnowsKind, List, MakesVariable, NewVariable, Only, OthersStay, OwnRules, Plain, R, Refused, Same, Shape, Some, TooLarge, Took, Variable, VariableLives, VariableShape, VariableSplices, Z, [], allowances, ap, apart_if, append-nil, arith, attributes_kept, behind_link, beside_in, bytes_eq, content, content_is, content_now, count_of, counted_before, counted_in, edit, ends, eq-eqb, false, file, fills, fine_has_no_zeros, fine_is_short, fine_is_some, flat_map, gdr_is, gdr_place, gone, good_by_its_shape, good_image_if, good_is_sound, got-middle, if◌then◌else◌, image_limit, inl, is_among, is_bad_name, is_bad_shape, is_vdr_body, joined_acts, joined_size, joined_splices, joined_type, kind_ours, kind_type, leaves_of, length, linked, lives, made_keeps_unused, made_once, making, map, map-append, marks, member_in, name_in, new_variable, next_field, nodes_of, number, numbers_kept, nums_from, of_kind, only_of, only_reads, owned, owned_once_if, r_sizes, refl, room, same_as_itself, same_kind, shape, shape_is, shape_now, shapes_of, size_at, slice_get, spliced_times, step, subst, sym, t, the_one, times, times-none, too_large, true, true≢false, type_at, type_in, type_of_body, used_times, var_step, variable_changes, variable_names, variable_of, variable_records, variables_chain, variables_of, variables_of_are, vdr_body, vdr_bytes, vdr_name, vdr_type, vdrs, vdrs_append, vdrs_rows, vdrs_rows-push, with_shapes, with_variables, ℕ, ◌++◌, ◌+◌, ◌<◌, ◌^◌, ◌∙◌, ◌∷◌, ◌≡◌, ◌≢◌, ◌≤◌, sealed_kept, good_long, rules_of_good}
+use Rattle.cdf_vars.proofs.Common.{Act, All, AllKeep, Allowances, Answers, ByStep, Chain, DataSet, Does, Done, Follows, Go, Good, HasDims, HasShape, Hold, In, IsBody, IsGoodByShape, IsSound, JoinsVdr, Keeps, Kind, KnowsKind, List, MakesVariable, NewVariable, Only, OthersStay, OwnRules, Plain, R, Refused, Same, Shape, Some, TooLarge, Took, Variable, VariableLives, VariableShape, VariableSplices, Z, [], allowances, ap, apart_if, append-nil, arith, attributes_kept, behind_link, beside_in, bytes_eq, content, content_is, content_now, count_of, counted_before, counted_in, edit, ends, eq-eqb, false, file, fills, fine_has_no_zeros, fine_is_short, fine_is_some, flat_map, gdr_is, gdr_place, gone, good_by_its_shape, good_image_if, good_is_sound, got-middle, if◌then◌else◌, image_limit, inl, is_among, is_bad_name, is_bad_shape, is_vdr_body, joined_acts, joined_size, joined_splices, joined_type, kind_ours, kind_type, leaves_of, length, linked, lives, made_keeps_unused, made_once, making, map, map-append, marks, member_in, name_in, new_variable, next_field, nodes_of, number, numbers_kept, nums_from, of_kind, only_of, only_reads, owned, owned_once_if, r_sizes, refl, room, same_as_itself, same_kind, shape, shape_is, shape_now, shapes_of, size_at, slice_get, spliced_times, step, subst, sym, t, the_one, times, times-none, too_large, true≢false, type_at, type_in, type_of_body, used_times, var_step, variable_changes, variable_names, variable_of, variable_records, variables_chain, variables_of, variables_of_are, vdr_body, vdr_bytes, vdr_name, vdr_type, vdrs, vdrs_append, vdrs_rows, vdrs_rows-push, with_shapes, with_variables, ℕ, ◌++◌, ◌+◌, ◌<◌, ◌^◌, ◌∙◌, ◌∷◌, ◌≡◌, ◌≢◌, ◌≤◌, sealed_kept, good_long, rules_of_good}
 use Rattle.cdf_edits.proofs.Common.{members_of}
 use Rattle.cdf_edits.specs.Space.Adding.{Added}
 use Rattle.cdf_edits.proofs.Edits.VariablesLinked.{keep_numbered, keep_with_kind, next_keeps, other_stays}

@@ -1,5 +1,5 @@
 -- Records of a variable that has a rule for missing records were deleted: the images on the way are good, and the last one follows the command, where MaxRec is written or stays.
-use Rattle.cdf_vars.proofs.Common.{DataSet, Follows, Good, IsTarget, IsVdr, Kind, Known, Knows, List, Some, Target, Variable, VariableShape, ap, arith, cases_lt, cast_unsigned, inl, inr, content, extent, good_is_sound, got-map, got-middle, image_limit, is_max_rec, length, map, max_rec_at, record_bytes, shape, shapes_of, slice_get, subst, sym, target_found, true, variable_at, variable_named, variable_of, variables_of, vdrs, with_sign, with_variable, ℕ, ◌+◌, ◌-◌, ◌<◌, ◌∙◌, ◌≡◌, ◌≢◌, ◌≤◌, index_at, number, vdr_vxr_head, w32, false}
+use Rattle.cdf_vars.proofs.Common.{DataSet, Follows, Good, IsTarget, IsVdr, Kind, Known, Knows, List, Some, Target, Variable, VariableShape, ap, arith, cases_lt, cast_unsigned, inl, inr, content, extent, good_is_sound, got-map, got-middle, image_limit, is_max_rec, length, map, max_rec_at, record_bytes, shape, shapes_of, slice_get, subst, sym, target_found, true, variable_at, variable_named, variable_of, variables_of, vdrs, with_sign, with_variable, ℕ, ◌+◌, ◌<◌, ◌∙◌, ◌≡◌, ◌≢◌, ◌≤◌, index_at, number, vdr_vxr_head, w32, false}
 use Rattle.cdf_edits.specs.Commands.Room.{cut_room}
 use Rattle.cdf_edits.specs.Index.Blocks.{extent_after, is_sparse}
 use Rattle.cdf_edits.specs.Space.Acts.{Act}

@@ -30,6 +30,8 @@ pub mod PutRaised
 pub mod PutRead
 pub mod PutWhole
 pub mod PutTidy
+pub mod PackedDone
+pub mod PackedWhole
 pub mod PutPast
 pub mod PutAnswered
 pub mod RecordsDeleted

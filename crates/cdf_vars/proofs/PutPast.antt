@@ -33,7 +33,7 @@ use Rattle.cdf_puts.specs.Starts.{ExpectsEntries, InTopChain, IsForgotten, IsKno
 use Rattle.cdf_puts.specs.declared.starts.Starts.{Starts}
 use Rattle.cdf_vars.proofs.PutRead.{WasRead, cuts_own, followed, form_vdr, index_there, knows_put, most_is, pad_is, pad_long, pad_stored, places_on, raw_is, raw_long, room_own, small, vdr_in, vdr_on}
 
-module _ {b : List ℕ} {t : Target} {bytes : List ℕ} {put : NewRecord} {limit : ℕ} (k : WasRead b t put.rec bytes put limit) {count : ℕ} (count_is : count ≡ extent (max_rec_at b t.form.place.vdr)) (cuts_at : cuts_before_put (variable_at b t.form.place.vdr) put.rec ≡ true) where
+module _ {b : List ℕ} {t : Target} {bytes : List ℕ} {put : NewRecord} {limit : ℕ} (k : WasRead b t put.rec bytes put limit false) {count : ℕ} (count_is : count ≡ extent (max_rec_at b t.form.place.vdr)) (cuts_at : cuts_before_put (variable_at b t.form.place.vdr) put.rec ≡ true) where
   abbrev kind : Kind
   kind = t.id.kind
 

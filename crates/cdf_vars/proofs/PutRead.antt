@@ -100,29 +100,30 @@ form_vdr good f = vdr_in good f.is_vdr
 pub expects_there : {b x : List ℕ} {r n : ℕ} (vdr : ℕ) (starts : Starts) → x ≡ b → n ≡ r → ExpectsPut b vdr r starts → ExpectsPut x vdr n starts
 expects_there vdr starts same is expects = transport (λ i. ExpectsPut (sym same i) vdr (sym is i) starts) expects
 
--- ---- what holds where the record was read
+-- ---- what holds where the record was read, of a variable that is packed or not
 
-pub record WasRead (b : List ℕ) (t : Target) (r : ℕ) (bytes : List ℕ) (put : NewRecord) (limit : ℕ) : Type 0 where
+pub record WasRead (b : List ℕ) (t : Target) (r : ℕ) (bytes : List ℕ) (put : NewRecord) (limit : ℕ) (rle : Bool) : Type 0 where
   pub good : Good b
-  pub loose : is_compressed b t.form.place.vdr ≡ false
+  pub rle_is : is_compressed b t.form.place.vdr ≡ rle
   pub can : CanPut b r t bytes
   pub short : length b ≤ image_limit
+  pub bound : limit ≤ image_limit
   pub room : HasRoom b t r limit
   pub new : IsNewRecord b t r bytes put
 
 -- of an image that is read before
-pub is_read : {b x : List ℕ} {t : Target} {r : ℕ} {bytes : List ℕ} {put : NewRecord} {limit limit' : ℕ}
-    → x ≡ b → limit' ≡ limit → Good b → is_compressed b t.form.place.vdr ≡ false → CanPut b r t bytes → HasRoom b t r limit → limit ≤ image_limit → IsNewRecord b t r bytes put → WasRead x t put.rec bytes put limit'
-is_read {b} {x} {t} {r} {bytes} {put} {limit} {limit'} same frame good loose can room most new =
-    let k : WasRead b t r bytes put limit = record { good = good; loose = loose; can = can; short = omega arith; room = room; new = new } in
-    let at_rec = subst (λ (n : ℕ). WasRead b t n bytes put limit) (sym new.rec_is) k in
-    subst (λ (y : List ℕ). WasRead y t put.rec bytes put limit') (sym same) (subst (λ (n : ℕ). WasRead b t put.rec bytes put n) (sym frame) at_rec)
+pub is_read : {b x : List ℕ} {t : Target} {r : ℕ} {bytes : List ℕ} {put : NewRecord} {limit limit' : ℕ} {rle : Bool}
+    → x ≡ b → limit' ≡ limit → Good b → is_compressed b t.form.place.vdr ≡ rle → CanPut b r t bytes → HasRoom b t r limit → limit ≤ image_limit → IsNewRecord b t r bytes put → WasRead x t put.rec bytes put limit' rle
+is_read {b} {x} {t} {r} {bytes} {put} {limit} {limit'} {rle} same frame good rle_is can room most new =
+    let k : WasRead b t r bytes put limit rle = record { good = good; rle_is = rle_is; can = can; short = omega arith; bound = most; room = room; new = new } in
+    let at_rec = subst (λ (n : ℕ). WasRead b t n bytes put limit rle) (sym new.rec_is) k in
+    subst (λ (y : List ℕ). WasRead y t put.rec bytes put limit' rle) (sym same) (subst (λ (n : ℕ). WasRead b t put.rec bytes put n rle) (sym frame) at_rec)
 
 -- whether something is cut before
 pub cuts_there : {b x : List ℕ} {r n : ℕ} (vdr : ℕ) {cuts : Bool} → x ≡ b → n ≡ r → cuts_before_put (variable_at b vdr) r ≡ cuts → cuts_before_put (variable_at x vdr) n ≡ cuts
 cuts_there vdr same is e = (λ i. cuts_before_put (variable_at (same i) vdr) (is i)) ∙ e
 
-module _ {b : List ℕ} {t : Target} {bytes : List ℕ} {put : NewRecord} {limit : ℕ} (k : WasRead b t put.rec bytes put limit) where
+module _ {b : List ℕ} {t : Target} {bytes : List ℕ} {put : NewRecord} {limit : ℕ} {rle : Bool} (k : WasRead b t put.rec bytes put limit rle) where
   abbrev vdr : ℕ
   vdr = t.form.place.vdr
 

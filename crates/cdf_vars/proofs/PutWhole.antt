@@ -18,7 +18,7 @@ use Rattle.cdf_format.specs.Shape.{is_compressed}
 
 -- ---- a put before which nothing is cut
 
-module _ {b : List ℕ} {t : Target} {bytes : List ℕ} {put : NewRecord} {limit : ℕ} (k : WasRead b t put.rec bytes put limit) (uncut_at : cuts_before_put (variable_at b t.form.place.vdr) put.rec ≡ false) where
+module _ {b : List ℕ} {t : Target} {bytes : List ℕ} {put : NewRecord} {limit : ℕ} (k : WasRead b t put.rec bytes put limit false) (uncut_at : cuts_before_put (variable_at b t.form.place.vdr) put.rec ≡ false) where
   abbrev kind : Kind
   kind = t.id.kind
 
@@ -39,7 +39,7 @@ module _ {b : List ℕ} {t : Target} {bytes : List ℕ} {put : NewRecord} {limit
     start = record {
       good = k.good;
       among = is.among;
-      loose = ap (is_compressed b) is.vdr_is ∙ k.loose;
+      loose = ap (is_compressed b) is.vdr_is ∙ k.rle_is;
       same_ranges = uncut_ranges v is.own.index put.rec uncut;
       same_nexts = λ m le. uncut_nexts v is.own.index put.rec m uncut;
       small = small k;

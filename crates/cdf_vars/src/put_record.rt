@@ -45,7 +45,10 @@ use crate::removing::{greatest_extent, last_number, set_greatest};
 use crate::vars::Vars;
 use cdf_area::{Area, AreaError};
 use cdf_cuts::cut_past;
+use cdf_format::fields::VDR_COMPRESSION_BIT;
+use cdf_format::flags::has_bit;
 use cdf_model::{DataType, Encoding, Kind, Outcome, Reason, Reply};
+use cdf_packed_puts::put_packed;
 use cdf_puts::{NewRecord, Starts, put_records};
 use cdf_records::set_vdr_max_rec;
 use cdf_trim::trim_past;
@@ -54,6 +57,13 @@ use cdf_var_records::{
     Form, has_put_room, read_block_count, read_extent, read_first_written, read_pad_record,
 };
 use std::alloc::Global;
+
+/// Whether the records of a variable are packed, as its descriptor says.
+fn is_packed(form: &Form) -> bool
+    ensures { (b : List ℕ) → IsForm b form.now → result ≡ is_compressed b form.now.place.vdr }
+{
+    has_bit(form.place.flags, VDR_COMPRESSION_BIT)
+}
 
 /// The bytes of elements of a type in network order, turned into those that are stored.
 fn as_stored(t: DataType, encoding: Encoding, mut bytes: Vec<u8>) -> Vec<u8>
@@ -221,9 +231,10 @@ impl Vars {
         self.write_max_rec(area, target, rec as i32)
     }
 
-    /// Puts a record of a variable, which there is room for, where nothing is cut before. After an error a part of this may have been done.
+    /// Puts a record of a variable that is not packed, and for which there is room, where nothing is cut before. After an error a part of this
+    /// may have been done.
     #[tactic(auto, using(cdf_area::proofs::Calls::edit_done, cdf_area::proofs::Calls::edit_failed, cdf_area::proofs::Calls::edit_more, cdf_area::proofs::Calls::edits_by_read, cdf_area::proofs::Calls::keeps_by_read, cdf_area::proofs::Calls::read_once))]
-    fn write_record<A: Area>(
+    fn write_unpacked<A: Area>(
         &self,
         area: &mut A,
         target: &Target,
@@ -249,6 +260,65 @@ impl Vars {
         let put = read_new_record(self.alloc, area, target, rec, count, bytes)?;
         put_records(self.alloc, area, &put, known, rec.min(count))?;
         self.raise_max_rec(area, target, rec, count)
+    }
+
+    /// Puts a record of a packed variable, for which there is room, where nothing is cut before. After an error a part of this may have been done.
+    #[tactic(auto, using(cdf_area::proofs::Calls::edit_done, cdf_area::proofs::Calls::edit_failed, cdf_area::proofs::Calls::edit_more, cdf_area::proofs::Calls::edits_by_read, cdf_area::proofs::Calls::keeps_by_read, cdf_area::proofs::Calls::read_once))]
+    fn write_packed<A: Area>(
+        &self,
+        area: &mut A,
+        target: &Target,
+        known: Option<u64>,
+        rec: u32,
+        count: u32,
+        bytes: Vec<u8>,
+    ) -> Result<(), AreaError>
+        requires good { Good (A.image area.old) }
+        requires known { Knows (A.image area.old) self.now }
+        requires can { CanPut (A.image area.old) rec target.now bytes.items }
+        requires packed { is_compressed (A.image area.old) target.now.form.place.vdr ≡ true }
+        requires count { count ≡ extent (max_rec_at (A.image area.old) target.now.form.place.vdr) }
+        requires uncut { cuts_before_put (variable_at (A.image area.old) target.now.form.place.vdr) rec ≡ false }
+        requires start { IsKnownStart (A.image area.old) target.now.form.place.vdr known }
+        requires room { HasRoom (A.image area.old) target.now rec (A.frame area.old).limit }
+        requires limit { (A.frame area.old).limit ≤ image_limit }
+        ensures follows { OnOk result ((c : Command) (name : List ℕ) → PutsSo (A.image area.old) c name rec target.now bytes.items → Follows (A.image area.old) c (A.image area.new)) }
+        ensures known { OnOk result (Knows (A.image area.new) self.now) }
+        ensures starts { OnOk result ((starts : Starts) → KnowsStarts (A.image area.old) starts → ExpectsPut (A.image area.old) target.now.form.place.vdr rec starts → KnowsStarts (A.image area.new) starts) }
+        ensures area { Edits A.frame A.faults area.old area.new result }
+    {
+        let put = read_new_record(self.alloc, area, target, rec, count, bytes)?;
+        put_packed(self.alloc, area, &put, known, rec.min(count))?;
+        self.raise_max_rec(area, target, rec, count)
+    }
+
+    /// Puts a record of a variable, which there is room for, where nothing is cut before. After an error a part of this may have been done.
+    fn write_record<A: Area>(
+        &self,
+        area: &mut A,
+        target: &Target,
+        known: Option<u64>,
+        rec: u32,
+        count: u32,
+        bytes: Vec<u8>,
+    ) -> Result<(), AreaError>
+        requires good { Good (A.image area.old) }
+        requires known { Knows (A.image area.old) self.now }
+        requires can { CanPut (A.image area.old) rec target.now bytes.items }
+        requires count { count ≡ extent (max_rec_at (A.image area.old) target.now.form.place.vdr) }
+        requires uncut { cuts_before_put (variable_at (A.image area.old) target.now.form.place.vdr) rec ≡ false }
+        requires start { IsKnownStart (A.image area.old) target.now.form.place.vdr known }
+        requires room { HasRoom (A.image area.old) target.now rec (A.frame area.old).limit }
+        requires limit { (A.frame area.old).limit ≤ image_limit }
+        ensures follows { OnOk result ((c : Command) (name : List ℕ) → PutsSo (A.image area.old) c name rec target.now bytes.items → Follows (A.image area.old) c (A.image area.new)) }
+        ensures known { OnOk result (Knows (A.image area.new) self.now) }
+        ensures starts { OnOk result ((starts : Starts) → KnowsStarts (A.image area.old) starts → ExpectsPut (A.image area.old) target.now.form.place.vdr rec starts → KnowsStarts (A.image area.new) starts) }
+        ensures area { Edits A.frame A.faults area.old area.new result }
+    {
+        if is_packed(&target.form) {
+            return self.write_packed(area, target, known, rec, count, bytes);
+        }
+        self.write_unpacked(area, target, known, rec, count, bytes)
     }
 
     /// Puts a record past MaxRec + 1 of a variable that has a rule for missing records, and for which there is room: what its blocks have past

@@ -49,9 +49,6 @@ returns-then-not-fits-clause-answers g c d name so =
 pub write_record-requires-clause-good : goal.write_record-requires-clause-good
 write_record-requires-clause-good g c = rw (c.has_put_room.ensures.area.image, c.read_first_written.ensures.area.image, c.read_extent.ensures.area.image, c.find_start.ensures.area.image) c.requires.good
 
-pub write_record-requires-clause-unpacked : goal.write_record-requires-clause-unpacked
-write_record-requires-clause-unpacked g c = rw (c.has_put_room.ensures.area.image, c.read_first_written.ensures.area.image, c.read_extent.ensures.area.image, c.find_start.ensures.area.image) c.requires.unpacked
-
 pub write_record-requires-clause-room : goal.write_record-requires-clause-room
 write_record-requires-clause-room g c =
     let read = read_more (read_more (read_once c.in_ok-known.ensures.area) c.in_ok-count.ensures.area) c.in_ok-from.ensures.area in

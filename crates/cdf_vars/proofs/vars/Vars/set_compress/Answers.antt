@@ -1,5 +1,4 @@
-use Rattle.cdf_vars.proofs.Common.{Frame, IsVdr, NoSuchVar, ap, arith, image_limit, length, refl, refused, sym, vdr_lies, List, ℕ, ◌∙◌, ◌≡◌, ◌≤◌}
-use Rattle.cdf_compress.specs.Compressing.{CompressionSet}
+use Rattle.cdf_vars.proofs.Common.{Frame, IsVdr, NoSuchVar, ap, arith, length, refl, refused, sym, vdr_lies, List, ℕ, ◌∙◌, ◌≡◌}
 use Rattle.cdf_model.specs.declared.command.Command.TheVariants.{SetCompress}
 use Rattle.cdf_vars.proofs.CompressionAnswers.{no_room, packed_in_use, room_there, set_done, set_known}
 use Rattle.cdf_vars.proofs.ReindexAnswers.{vdr_in}

@@ -1,4 +1,4 @@
-use Rattle.cdf_vars.proofs.Common.{Frame, List, PutsUpTo, R, SomePutting, ap, extent, index_at, max_rec_at, number, shape, shapes_of, subst, sym, true, variable_at, vdr_vxr_head, vdrs, ℕ, ◌+◌, ◌∙◌, ◌≡◌}
+use Rattle.cdf_vars.proofs.Common.{Frame, List, PutsUpTo, R, SomePutting, ap, extent, false, index_at, max_rec_at, number, shape, shapes_of, subst, sym, true, variable_at, vdr_vxr_head, vdrs, ℕ, ◌+◌, ◌∙◌, ◌≡◌}
 use Rattle.cdf_cuts.specs.Past.{CutPast, cut_off}
 use Rattle.cdf_edits.specs.Index.Blocks.{cuts_before_put}
 use Rattle.cdf_puts.specs.Starts.{IsKnownStart}
@@ -11,7 +11,7 @@ use Rattle.cdf_vars.proofs.vars.Vars.write_past.Goals.{In_ok-stays, In_ok-put, I
 use Rattle.cdf_vars.proofs.vars.Vars.write_past.Goals as goal
 
 -- the image that was read
-here : (g : Over) (c : In_ok-put g) → WasRead (g.A.Area.image c.read_new_record.new.area) c.args.target.now c.in_ok-put.put.rec c.args.bytes.items c.in_ok-put.put (g.A.Area.frame c.read_new_record.new.area).limit
+here : (g : Over) (c : In_ok-put g) → WasRead (g.A.Area.image c.read_new_record.new.area) c.args.target.now c.in_ok-put.put.rec c.args.bytes.items c.in_ok-put.put (g.A.Area.frame c.read_new_record.new.area).limit false
 here g c = is_read c.read_new_record.ensures.area.image (ap (λ (f : Frame _). f.limit) c.read_new_record.ensures.area.frame) c.requires.good c.requires.unpacked c.requires.can c.requires.room c.requires.limit c.in_ok-put.ensures.put
 
 -- something is cut
@@ -30,7 +30,7 @@ cut_end-requires-clause-vdr g c =
     rw (c.in_ok-put.ensures.put.vdr_is) (form_vdr k.good k.can.is.is_form)
 
 pub cut_end-requires-clause-unpacked : goal.cut_end-requires-clause-unpacked
-cut_end-requires-clause-unpacked g c = let k = here g (goal.at.cut_end-requires-clause-unpacked g c).In_ok-put in rw (c.in_ok-put.ensures.put.vdr_is) k.loose
+cut_end-requires-clause-unpacked g c = let k = here g (goal.at.cut_end-requires-clause-unpacked g c).In_ok-put in rw (c.in_ok-put.ensures.put.vdr_is) k.rle_is
 
 pub cut_end-requires-clause-short : goal.cut_end-requires-clause-short
 cut_end-requires-clause-short g c = (here g (goal.at.cut_end-requires-clause-short g c).In_ok-put).short
