@@ -1,0 +1,4 @@
+pub mod Steps
+pub mod Closing
+pub mod Opening
+pub mod Keeping

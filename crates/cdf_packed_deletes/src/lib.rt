@@ -1,0 +1,7 @@
+//! Records taken out of packed variables, where later ones close up or keep their numbers.
+#![tactic(auto)]
+
+mod closing;
+pub mod laws;
+
+pub use closing::close_packed;
