@@ -30,9 +30,11 @@ pub mod PutRaised
 pub mod PutRead
 pub mod PutWhole
 pub mod PutTidy
+pub mod PackedFollows
 pub mod PackedDone
 pub mod PackedWhole
 pub mod PutPast
+pub mod PackedPast
 pub mod PutAnswered
 pub mod RecordsDeleted
 pub mod GapLeft

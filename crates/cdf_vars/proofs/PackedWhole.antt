@@ -15,7 +15,8 @@ use Rattle.cdf_packed_puts.proofs.NothingCut.{uncut_along, uncut_gone}
 use Rattle.cdf_packed_puts.specs.Putting.{PackedPut, Packing, SomePacking}
 use Rattle.cdf_sparse.proofs.TidyStages.{puts_tidy}
 use Rattle.cdf_var_records.specs.Room.{ExpectsPut}
-use Rattle.cdf_vars.proofs.PackedDone.{content_put, put_rec_done, put_val_done}
+use Rattle.cdf_vars.proofs.PackedDone.{is_packed_put}
+use Rattle.cdf_vars.proofs.PackedFollows.{IsPackedPut, put_rec_done, put_val_done}
 use Rattle.cdf_vars.proofs.PutRead.{WasRead, cuts_own, followed, index_there, knows_put, most_is, pad_is, pad_long, pad_stored, places_on, raw_is, raw_long, room_own, small, vdr_on}
 
 module _ {b : List ℕ} {t : Target} {bytes : List ℕ} {put : NewRecord} {limit : ℕ} (k : WasRead b t put.rec bytes put limit true) (uncut_at : cuts_before_put (variable_at b t.form.place.vdr) put.rec ≡ false) where
@@ -90,11 +91,11 @@ module _ {b : List ℕ} {t : Target} {bytes : List ℕ} {put : NewRecord} {limit
       max_rec_done =
           subst (λ (n : ℕ). ((n ≤ put.rec) × MaxRecRaised now last kind own' put.rec) ⊎ ((put.rec < n) × (last ≡ now))) (sym now_extent ∙ ap (λ (k : ℕ). extent (max_rec_at b k)) (sym is.vdr_is)) (raises own' now_is)
 
+      is_put : IsPackedPut b last kind is.before is.own own' is.after put.rec bytes done.is_put.acts
+      is_put = is_packed_put packing uncut done now_short max_rec_done bytes (raw_is k) (pad_is k)
+
       pub follows : (c : Command) (name : List ℕ) → PutsSo b c name put.rec t bytes → Follows b c last
-      follows c name so =
-          followed k c name so
-          (λ words named. put_rec_done packing uncut done now_short max_rec_done bytes (raw_is k) (pad_is k) name named words)
-          (λ index words named. put_val_done packing uncut done now_short max_rec_done bytes (raw_is k) (pad_is k) name named index words)
+      follows c name so = followed k c name so (λ words named. put_rec_done is_put name named words) (λ index words named. put_val_done is_put name named index words)
 
       -- ---- what is kept of the variables
 
@@ -109,4 +110,4 @@ module _ {b : List ℕ} {t : Target} {bytes : List ℕ} {put : NewRecord} {limit
           record { each = subst (λ (s : Shape). Each (IsKnownOf starts) (variables s)) (sym last_shape) (starts_go_on knows kind is.among goes yet).each }
 
       pub known_now : {known : Known} → Knows b known → Knows last known
-      known_now = knows_put k (content_put packing uncut done now_short max_rec_done bytes (raw_is k) (pad_is k)) (λ (j : Kind). now_places j ∙ ap (λ (s : Shape). vdrs (shapes_of s j)) (sym last_shape))
+      known_now = knows_put k is_put.content_is (λ (j : Kind). now_places j ∙ ap (λ (s : Shape). vdrs (shapes_of s j)) (sym last_shape))

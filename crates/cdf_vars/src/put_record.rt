@@ -48,6 +48,7 @@ use cdf_cuts::cut_past;
 use cdf_format::fields::VDR_COMPRESSION_BIT;
 use cdf_format::flags::has_bit;
 use cdf_model::{DataType, Encoding, Kind, Outcome, Reason, Reply};
+use cdf_packed_cuts::cut_packed_past;
 use cdf_packed_puts::put_packed;
 use cdf_puts::{NewRecord, Starts, put_records};
 use cdf_records::set_vdr_max_rec;
@@ -55,6 +56,7 @@ use cdf_trim::trim_past;
 use cdf_values::from_network;
 use cdf_var_records::{
     Form, has_put_room, read_block_count, read_extent, read_first_written, read_pad_record,
+    record_size_of,
 };
 use std::alloc::Global;
 
@@ -321,10 +323,10 @@ impl Vars {
         self.write_unpacked(area, target, known, rec, count, bytes)
     }
 
-    /// Puts a record past MaxRec + 1 of a variable that has a rule for missing records, and for which there is room: what its blocks have past
-    /// MaxRec is cut first. Says whether it is known that each block stays. After an error a part of this may have been done.
+    /// Puts a record past MaxRec + 1 of a variable that is not packed and has a rule for missing records, and for which there is room: what its
+    /// blocks have past MaxRec is cut first. Says whether it is known that each block stays. After an error a part of this may have been done.
     #[tactic(auto, using(cdf_area::proofs::Calls::edit_done, cdf_area::proofs::Calls::edit_failed, cdf_area::proofs::Calls::edit_more, cdf_area::proofs::Calls::edits_by_read, cdf_area::proofs::Calls::keeps_by_read, cdf_area::proofs::Calls::read_once))]
-    fn write_past<A: Area>(
+    fn write_unpacked_past<A: Area>(
         &self,
         area: &mut A,
         target: &Target,
@@ -357,6 +359,78 @@ impl Vars {
         Ok(stays)
     }
 
+    /// Puts a record past MaxRec + 1 of a packed variable that has a rule for missing records, and for which there is room: what its blocks have past
+    /// MaxRec is cut first. After an error a part of this may have been done.
+    #[tactic(auto, using(cdf_area::proofs::Calls::edit_done, cdf_area::proofs::Calls::edit_failed, cdf_area::proofs::Calls::edit_more, cdf_area::proofs::Calls::edits_by_read, cdf_area::proofs::Calls::keeps_by_read, cdf_area::proofs::Calls::read_once))]
+    fn write_packed_past<A: Area>(
+        &self,
+        area: &mut A,
+        target: &Target,
+        rec: u32,
+        count: u32,
+        bytes: Vec<u8>,
+    ) -> Result<(), AreaError>
+        requires good { Good (A.image area.old) }
+        requires known { Knows (A.image area.old) self.now }
+        requires can { CanPut (A.image area.old) rec target.now bytes.items }
+        requires packed { is_compressed (A.image area.old) target.now.form.place.vdr ≡ true }
+        requires count { count ≡ extent (max_rec_at (A.image area.old) target.now.form.place.vdr) }
+        requires cuts { cuts_before_put (variable_at (A.image area.old) target.now.form.place.vdr) rec ≡ true }
+        requires room { HasRoom (A.image area.old) target.now rec (A.frame area.old).limit }
+        requires limit { (A.frame area.old).limit ≤ image_limit }
+        ensures follows { OnOk result ((c : Command) (name : List ℕ) → PutsSo (A.image area.old) c name rec target.now bytes.items → Follows (A.image area.old) c (A.image area.new)) }
+        ensures known { OnOk result (Knows (A.image area.new) self.now) }
+        ensures forgotten { OnOk result ((starts : Starts) → KnowsStarts (A.image area.old) starts → IsForgotten target.now.form.place.vdr starts → KnowsStarts (A.image area.new) starts) }
+        ensures area { Edits A.frame A.faults area.old area.new result }
+    {
+        let rec_bytes = record_size_of(&target.form.shape);
+        let put = read_new_record(self.alloc, area, target, rec, count, bytes)?;
+        cut_packed_past(self.alloc, area, put.vdr, rec_bytes, count)?;
+        put_packed(self.alloc, area, &put, None, rec)?;
+        self.raise_max_rec(area, target, rec, count)
+    }
+
+    /// Puts a record past MaxRec + 1 of a variable that has a rule for missing records, and for which there is room: what its blocks have past
+    /// MaxRec is cut first. After an error a part of this may have been done.
+    fn write_past<A: Area>(
+        &self,
+        area: &mut A,
+        starts: &mut Starts,
+        target: &Target,
+        known: Option<u64>,
+        rec: u32,
+        count: u32,
+        bytes: Vec<u8>,
+    ) -> Result<(), AreaError>
+        requires good { Good (A.image area.old) }
+        requires known { Knows (A.image area.old) self.now }
+        requires can { CanPut (A.image area.old) rec target.now bytes.items }
+        requires count { count ≡ extent (max_rec_at (A.image area.old) target.now.form.place.vdr) }
+        requires cuts { cuts_before_put (variable_at (A.image area.old) target.now.form.place.vdr) rec ≡ true }
+        requires start { IsKnownStart (A.image area.old) target.now.form.place.vdr known }
+        requires starts { KnowsStarts (A.image area.old) starts.old }
+        requires expects { ExpectsPut (A.image area.old) target.now.form.place.vdr rec starts.old }
+        requires room { HasRoom (A.image area.old) target.now rec (A.frame area.old).limit }
+        requires limit { (A.frame area.old).limit ≤ image_limit }
+        ensures follows { OnOk result ((c : Command) (name : List ℕ) → PutsSo (A.image area.old) c name rec target.now bytes.items → Follows (A.image area.old) c (A.image area.new)) }
+        ensures known { OnOk result (Knows (A.image area.new) self.now) }
+        ensures starts { OnOk result (KnowsStarts (A.image area.new) starts.new) }
+        ensures starts_stay { OnErr result (KnowsStarts (A.image area.old) starts.new) }
+        ensures area { Edits A.frame A.faults area.old area.new result }
+    {
+        if is_packed(&target.form) {
+            self.write_packed_past(area, target, rec, count, bytes)?;
+            starts.forget_index(target.form.place.vdr);
+            return Ok(());
+        }
+        let vdr = target.form.place.vdr;
+        let tidy = starts.is_tidy(vdr);
+        let end = KnownEnd { node: known, tidy };
+        let stays = self.write_unpacked_past(area, target, end, rec, count, bytes)?;
+        note_cut(starts, vdr, stays);
+        Ok(())
+    }
+
     /// Puts a record of a variable where there is room for it. After an error a part of this may have been done in the area.
     #[tactic(auto, using(cdf_area::proofs::Calls::edit_done, cdf_area::proofs::Calls::edit_failed, cdf_area::proofs::Calls::edit_more, cdf_area::proofs::Calls::edits_by_read, cdf_area::proofs::Calls::keeps_by_read, cdf_area::proofs::Calls::read_failed, cdf_area::proofs::Calls::read_more, cdf_area::proofs::Calls::read_once))]
     pub(crate) fn put_bytes<A: Area>(
@@ -370,7 +444,6 @@ impl Vars {
         requires good { Good (A.image area.old) }
         requires known { Knows (A.image area.old) self.now }
         requires can { CanPut (A.image area.old) rec target.now bytes.items }
-        requires unpacked { is_compressed (A.image area.old) target.now.form.place.vdr ≡ false }
         requires starts { KnowsStarts (A.image area.old) starts.old }
         requires fits { length (A.image area.old) ≤ (A.frame area.old).limit }
         requires limit { (A.frame area.old).limit ≤ image_limit }
@@ -393,10 +466,7 @@ impl Vars {
             });
         }
         if count < from {
-            let tidy = starts.is_tidy(vdr);
-            let end = KnownEnd { node: known, tidy };
-            let stays = self.write_past(area, target, end, rec, count, bytes)?;
-            note_cut(starts, vdr, stays);
+            self.write_past(area, starts, target, known, rec, count, bytes)?;
             return Ok(Outcome::Done {
                 reply: Reply::Plain,
             });

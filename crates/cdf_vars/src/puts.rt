@@ -12,7 +12,6 @@ ghost use Rattle.cdf_model.specs.declared.command.Command.TheVariants.{PutRec, P
 ghost use Rattle.cdf_puts.specs.Starts.{IsKnownStart, KnowsStarts};
 ghost use Rattle.cdf_vars.specs.Known.{Knows};
 ghost use Rattle.cdf_vars.specs.Puts.{HasTarget, IsPutRequest, IsTarget, SeesTarget};
-ghost use Rattle.cdf_format.specs.NotRead.{IsRead};
 
 use crate::padding::reason_of;
 use crate::vars::{VarId, Vars};
@@ -197,7 +196,6 @@ impl Vars {
         words: &Words,
     ) -> Result<Outcome, AreaError>
         requires good { Good (A.image area.old) }
-        requires read { IsRead (A.image area.old) }
         requires known { Knows (A.image area.old) self.now }
         requires starts { KnowsStarts (A.image area.old) starts.old }
         requires fits { length (A.image area.old) ≤ (A.frame area.old).limit }
@@ -226,7 +224,6 @@ impl Vars {
         words: &Words,
     ) -> Result<Outcome, AreaError>
         requires good { Good (A.image area.old) }
-        requires read { IsRead (A.image area.old) }
         requires known { Knows (A.image area.old) self.now }
         requires starts { KnowsStarts (A.image area.old) starts.old }
         requires fits { length (A.image area.old) ≤ (A.frame area.old).limit }

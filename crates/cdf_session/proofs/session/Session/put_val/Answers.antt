@@ -1,13 +1,9 @@
-use Rattle.cdf_session.proofs.Common.{PutVal, refl, subst, sym}
+use Rattle.cdf_session.proofs.Common.{PutVal, refl}
 use Rattle.cdf_session.proofs.OpenLemmas.{good_stays, ends_on_records}
 use Rattle.cdf_session.proofs.session.Session.put_val.Goals as goal
-use Rattle.cdf_format.specs.NotRead.{IsRead}
 
 pub put_val-done-requires-clause-good : goal.put_val-done-requires-clause-good
 put_val-done-requires-clause-good g c = good_stays _ _ c.self.invariant.0.good c.mark.ensures.image
-
-pub put_val-done-requires-clause-read : goal.put_val-done-requires-clause-read
-put_val-done-requires-clause-read g c = subst IsRead (sym c.mark.ensures.image) c.self.invariant.0.read
 
 pub invariant_of-self : goal.invariant_of-self
 invariant_of-self g c =

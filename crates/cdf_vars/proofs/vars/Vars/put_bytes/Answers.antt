@@ -1,7 +1,8 @@
-use Rattle.cdf_vars.proofs.Common.{Frame, HasRoom, List, ap, arith, edit_done, edit_failed, edit_more, extent, first_written, keeps_by_read, length, max_rec_at, read_more, read_once, subst, sym, variable_at, ℕ, ◌+◌, ◌-◌, ◌<◌, ◌∙◌, ◌≡◌, ◌≤◌}
+use Rattle.cdf_vars.proofs.Common.{AreaError, Err, Frame, HasRoom, List, Ok, Result, ap, arith, edit_done, edit_failed, edit_more, extent, first_written, keeps_by_read, length, max_rec_at, read_more, read_once, subst, sym, variable_at, ℕ, ◌+◌, ◌-◌, ◌<◌, ◌∙◌, ◌≡◌, ◌≤◌}
 use Rattle.cdf_vars.proofs.PutAnswered.{fits_left, over_left, put_answers, put_refused}
 use Rattle.cdf_var_records.specs.Room.{put_room_at}
 use Rattle.std.proofs.Math.Path.{transport}
+use Rattle.std.specs.Prelude.{OnErr}
 use Rattle.cdf_puts.specs.Starts.{KnowsStarts}
 use Rattle.cdf_vars.proofs.PutRead.{cuts_by, form_vdr, uncut_by, within}
 use Rattle.cdf_var_records.proofs.PutRoomNeeded.{head_lies}
@@ -117,9 +118,6 @@ write_past-requires-clause-cuts g c =
 pub write_past-requires-clause-good : goal.write_past-requires-clause-good
 write_past-requires-clause-good g c = rw (c.has_put_room.ensures.area.image, c.read_first_written.ensures.area.image, c.read_extent.ensures.area.image, c.find_start.ensures.area.image) c.requires.good
 
-pub write_past-requires-clause-unpacked : goal.write_past-requires-clause-unpacked
-write_past-requires-clause-unpacked g c = rw (c.has_put_room.ensures.area.image, c.read_first_written.ensures.area.image, c.read_extent.ensures.area.image, c.find_start.ensures.area.image) c.requires.unpacked
-
 pub write_past-requires-clause-room : goal.write_past-requires-clause-room
 write_past-requires-clause-room g c =
     let read = read_more (read_more (read_once c.in_ok-known.ensures.area) c.in_ok-count.ensures.area) c.in_ok-from.ensures.area in
@@ -136,7 +134,7 @@ returns-then-count-from-clause-answers g c d name so =
     let vdr = c.args.target.now.form.place.vdr in
     let left = left_is g (goal.at.returns-then-count-from-clause-answers g c).After-size in
     let room = subst (λ (x : List ℕ). put_room_at x vdr c.args.rec ≤ c.limit.result - c.size.result) read.image (c.in_ok-fits.ensures.fits c.if-not-fits.false) in
-    let follows = rw (c.has_put_room.ensures.area.image, c.read_first_written.ensures.area.image, c.read_extent.ensures.area.image, c.find_start.ensures.area.image) at c.in_ok-stays.ensures.follows in
+    let follows = rw (c.has_put_room.ensures.area.image, c.read_first_written.ensures.area.image, c.read_extent.ensures.area.image, c.find_start.ensures.area.image) at c.in_ok-write_past.ensures.follows in
     put_answers c.requires.good c.requires.can (g.A.Area.frame c.args.area.now).limit d name so (g.A.Area.image c.write_past.new.area)
     (fits_left _ _ _ _ left room) (follows d name so)
 
@@ -147,26 +145,27 @@ knows g c = rw (c.read_first_written.ensures.area.image, c.read_extent.ensures.a
 pub write_past-requires-clause-start : goal.write_past-requires-clause-start
 write_past-requires-clause-start g c = rw (c.has_put_room.ensures.area.image, c.read_first_written.ensures.area.image, c.read_extent.ensures.area.image, c.find_start.ensures.area.image) c.in_ok-known.ensures.start
 
-pub write_past-requires-clause-tidy : goal.write_past-requires-clause-tidy
-write_past-requires-clause-tidy g c says =
-    let known = knows g (goal.at.write_past-requires-clause-tidy g c).In_ok-fits in
-    rw (c.has_put_room.ensures.area.image, c.read_first_written.ensures.area.image, c.read_extent.ensures.area.image, c.find_start.ensures.area.image)
-    (c.is_tidy-tidy.ensures (g.A.Area.image c.args.area.now) c.requires.good (form_vdr c.requires.good c.requires.can.is.is_form) known says)
+pub write_past-requires-clause-starts : goal.write_past-requires-clause-starts
+write_past-requires-clause-starts g c = rw (c.has_put_room.ensures.area.image, c.read_first_written.ensures.area.image, c.read_extent.ensures.area.image, c.find_start.ensures.area.image) (knows g (goal.at.write_past-requires-clause-starts g c).In_ok-fits)
 
-pub returns-then-count-from-clause-starts : goal.returns-then-count-from-clause-starts
-returns-then-count-from-clause-starts g c =
-    let known = knows g (goal.at.returns-then-count-from-clause-starts g c).In_ok-fits in
-    let expects = rw (c.read_first_written.ensures.area.image, c.read_extent.ensures.area.image, c.find_start.ensures.area.image) at (c.in_ok-fits.ensures.expects c.if-not-fits.false) in
-    let yet = rw (c.has_put_room.ensures.area.image, c.read_first_written.ensures.area.image, c.read_extent.ensures.area.image, c.find_start.ensures.area.image) at c.in_ok-stays.ensures.starts in
-    let forgotten = rw (c.has_put_room.ensures.area.image, c.read_first_written.ensures.area.image, c.read_extent.ensures.area.image, c.find_start.ensures.area.image) at c.in_ok-stays.ensures.forgotten in
-    c.note_cut.ensures _ _ c.requires.good known (λ says. yet says _ known expects) forgotten c.in_ok-stays.ensures.tidy
+pub write_past-requires-clause-expects : goal.write_past-requires-clause-expects
+write_past-requires-clause-expects g c = rw (c.has_put_room.ensures.area.image) (c.in_ok-fits.ensures.expects c.if-not-fits.false)
+
+-- where it failed, it is so whatever the error is
+on_err : {T P : Type 0} (result : Result T AreaError) → P → OnErr result P
+on_err (Ok x) p = tt
+on_err (Err error) p = p
+
+pub returns-in_err-write_past-clause-starts_stay : goal.returns-in_err-write_past-clause-starts_stay
+returns-in_err-write_past-clause-starts_stay g c =
+    on_err c.from_residual-in_err-write_past.result (rw (c.has_put_room.ensures.area.image, c.read_first_written.ensures.area.image, c.read_extent.ensures.area.image, c.find_start.ensures.area.image) at c.in_err-write_past.ensures.starts_stay)
 
 pub returns-then-count-from-clause-area : goal.returns-then-count-from-clause-area
 returns-then-count-from-clause-area g c =
     let stays = read_more (read_more (read_more (read_once c.in_ok-known.ensures.area) c.in_ok-count.ensures.area) c.in_ok-from.ensures.area) c.in_ok-fits.ensures.area in
-    edit_done (edit_more (keeps_by_read stays) c.in_ok-stays.ensures.area)
+    edit_done (edit_more (keeps_by_read stays) c.in_ok-write_past.ensures.area)
 
-pub returns-in_err-stays-clause-area : goal.returns-in_err-stays-clause-area
-returns-in_err-stays-clause-area g c =
+pub returns-in_err-write_past-clause-area : goal.returns-in_err-write_past-clause-area
+returns-in_err-write_past-clause-area g c =
     let stays = read_more (read_more (read_more (read_once c.in_ok-known.ensures.area) c.in_ok-count.ensures.area) c.in_ok-from.ensures.area) c.in_ok-fits.ensures.area in
-    edit_failed (keeps_by_read stays) c.in_err-stays.ensures.area c.from_residual-in_err-stays.ensures.1
+    edit_failed (keeps_by_read stays) c.in_err-write_past.ensures.area c.from_residual-in_err-write_past.ensures.1

@@ -1,13 +1,11 @@
 use Rattle.cdf_vars.proofs.Common.{IfOk-weaker, PutVal}
 use Rattle.cdf_vars.proofs.vars.Vars.put_val.Goals as goal
-use Rattle.cdf_vars.proofs.Unpacked.{unpacked_there}
-use Rattle.cdf_vars.proofs.PutRead.{form_vdr}
 
 pub put_bytes-requires : goal.put_bytes-requires
 put_bytes-requires g c =
     let may = rw c.in-Put.is at c.in_ok-target.ensures.request in
     let stays = c.read_value_request.ensures.area in
-    rw (stays.image, stays.frame) (record { good = c.requires.good; known = c.requires.known; can = may.can; unpacked = unpacked_there _ _ c.requires.read (form_vdr c.requires.good may.can.is.is_form); starts = c.read_value_request.ensures.starts; fits = c.requires.fits; limit = c.requires.limit })
+    rw (stays.image, stays.frame) (record { good = c.requires.good; known = c.requires.known; can = may.can; starts = c.read_value_request.ensures.starts; fits = c.requires.fits; limit = c.requires.limit })
 
 pub returns-in-Put-clause-answers : goal.returns-in-Put-clause-answers
 returns-in-Put-clause-answers g c =
