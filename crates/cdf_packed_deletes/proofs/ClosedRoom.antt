@@ -1,5 +1,5 @@
 -- How many bytes are taken as records go from a packed variable and later ones close up: within the room of the command.
-use Rattle.cdf_edits.proofs.Common.{Act, ActsFollow, Bool, Gave, Kind, Leaf, List, Range, SpaceLeft, Took, Variable, VariableShape, [], after_act, ap, arith, either, filter, flat_map, fold, inl, inr, leaves_of, length, lt-ltb, map, range, record_number_limit, records_of_leaf, refl, shared, space_before, suc, sum, taken, true, variable_of, ℕ, ◌*◌, ◌+◌, ◌-◌, ◌<◌, ◌∷◌, ◌≡◌, ◌≤◌}
+use Rattle.cdf_edits.proofs.Common.{Act, ActsFollow, Bool, Kind, Leaf, List, Range, Variable, VariableShape, [], ap, arith, either, filter, flat_map, inl, inr, leaves_of, length, lt-ltb, map, range, record_number_limit, records_of_leaf, refl, shared, suc, sum, true, variable_of, ℕ, ◌*◌, ◌+◌, ◌-◌, ◌<◌, ◌∷◌, ◌≡◌, ◌≤◌}
 use Rattle.std.specs.Prelude.{max}
 use Rattle.cdf_format.specs.Records.{linked_size, vvr_bytes}
 use Rattle.std.proofs.lemmas.List.Sums.{sum_by-cons}

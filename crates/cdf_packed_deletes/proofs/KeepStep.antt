@@ -6,7 +6,7 @@ use Rattle.cdf_edits.proofs.Edits.LeafPieces.{IsOneOf, find_covering, find_first
 use Rattle.cdf_edits.proofs.Edits.LeafRecords.{Ascending}
 use Rattle.cdf_edits.proofs.Edits.PlainLeaves.{leaves_ascend}
 use Rattle.cdf_edits.specs.Commands.PutSteps.{Stage}
-use Rattle.cdf_blocks.proofs.PlacedLeaf.{all_placed, count_once, leaves_placed, new_placed, one_placed, placed}
+use Rattle.cdf_blocks.proofs.PlacedLeaf.{all_placed, count_once, leaves_placed, new_placed, one_placed}
 use Rattle.cdf_packed_cuts.proofs.TwoSteps.{other_placed}
 use Rattle.cdf_packed_deletes.proofs.LeafKinds.{IsBack, IsBegun, IsBoth, IsRanged}
 use Rattle.cdf_packed_deletes.proofs.PartPieces.{part, part_long, piece_back, piece_front, piece_of_first, piece_of_part}

@@ -25,3 +25,15 @@ pub mod KeptSides
 pub mod KeptAll
 pub mod KeptOn
 pub mod AllClosed
+pub mod WholeOpen
+pub mod OpenParts
+pub mod OpenLists
+pub mod OpenEdge
+pub mod OpenChain
+pub mod OpenSides
+pub mod OpenAll
+pub mod OpenOn
+pub mod OpenIndexes
+pub mod OpenAdd
+pub mod OpenWhole
+pub mod OpenDone

@@ -28,7 +28,7 @@ unsplit : (first last : ℕ) (f l : ℕ) → (l ≤ last) ⊎ (first ≤ f) → 
 unsplit first last f l (inr low) = elim (cases_lt last l) [ inl lt ↦ rw (le-ltb f first low, lt-ltb last l lt) refl | inr le ↦ rw (le-ltb f first low, le-ltb last l le) refl ]
 unsplit first last f l (inl le) = elim (cases_lt f first) [ inl lt ↦ rw (lt-ltb f first lt, le-ltb last l le) refl | inr low ↦ rw (le-ltb f first low, le-ltb last l le) refl ]
 
-none_split : (first last : ℕ) (leaves : List Leaf) → ((l : Leaf) → IsOneOf leaves l → (l.last ≤ last) ⊎ (first ≤ l.first)) → flat_map (split_off first last) (map (λ (l : Leaf). range l.first l.last) leaves) ≡ []
+pub none_split : (first last : ℕ) (leaves : List Leaf) → ((l : Leaf) → IsOneOf leaves l → (l.last ≤ last) ⊎ (first ≤ l.first)) → flat_map (split_off first last) (map (λ (l : Leaf). range l.first l.last) leaves) ≡ []
 none_split first last [] none = refl
 none_split first last (x ∷ more) none = λ i. unsplit first last x.first x.last (none x (inl refl)) i ++ none_split first last more (λ l j. none l (inr j)) i
 

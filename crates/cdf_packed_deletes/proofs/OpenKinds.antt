@@ -51,10 +51,10 @@ module _ (first last : ℕ) (order : first ≤ suc last) where
   all_of : (n m : ℕ) → m ≤ n → (nat_lt 0 n && nat_lt n m) ≡ false
   all_of n m le = grind (arith, nat_tests)
 
-  keeps_apart : (l : Leaf) → IsRanged l → IsApart first last l → keeps_some false first last l ≡ false
+  pub keeps_apart : (l : Leaf) → IsRanged l → IsApart first last l → keeps_some false first last l ≡ false
   keeps_apart l r a = keeps_by l (range l.first l.last ∷ []) r (open_apart l r.ordered a) ∙ all_of (count_of (range l.first l.last ∷ [])) (l.last + 1 - l.first) (omega arith)
 
-  keeps_inside : (l : Leaf) → IsRanged l → IsInside first last l → keeps_some false first last l ≡ false
+  pub keeps_inside : (l : Leaf) → IsRanged l → IsInside first last l → keeps_some false first last l ≡ false
   keeps_inside l r k = keeps_by l [] r (open_inside l k)
 
   some_of : (n m : ℕ) → 0 < n → n < m → (nat_lt 0 n && nat_lt n m) ≡ true
@@ -63,7 +63,7 @@ module _ (first last : ℕ) (order : first ≤ suc last) where
   pub keeps_front : (l : Leaf) → IsRanged l → IsBegun first last l → keeps_some false first last l ≡ true
   keeps_front l r k = keeps_by l (range l.first (first - 1) ∷ []) r (open_front l k) ∙ some_of (count_of (range l.first (first - 1) ∷ [])) (l.last + 1 - l.first) (omega (arith, k.0)) (omega (arith, k.0, k.1))
 
-  keeps_back : (l : Leaf) → IsRanged l → IsBack first last l → keeps_some false first last l ≡ true
+  pub keeps_back : (l : Leaf) → IsRanged l → IsBack first last l → keeps_some false first last l ≡ true
   keeps_back l r k = keeps_by l (range (last + 1) l.last ∷ []) r (open_back l k) ∙ some_of (count_of (range (last + 1) l.last ∷ [])) (l.last + 1 - l.first) (omega (arith, k.2)) (omega (arith, k.1, k.2))
 
   pub open_meets : (l : Leaf) → IsRanged l → keeps_some false first last l ≡ true → IsApart first last l → ⊥

@@ -3,5 +3,7 @@
 
 mod closing;
 pub mod laws;
+mod opening;
 
 pub use closing::close_packed;
+pub use opening::open_packed;
